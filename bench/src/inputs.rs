@@ -2,6 +2,7 @@
 
 use crate::random::Random;
 use crate::readers::log2::{NO_ACTION, ROW_LENGTH, SIGNATURE};
+use crate::readers::node::{ACPI, FILE_PATH, HARD_DRIVE, NVME, PCI};
 use crate::readers::path::{END, END_ENTIRE, END_INSTANCE, HEADER};
 use crate::readers::{info, pci};
 
@@ -37,6 +38,20 @@ pub fn path(count: usize) -> Vec<u8> {
         bytes.extend([random.below(6) as u8, random.byte()]);
         bytes.extend((length as u16 + HEADER as u16).to_le_bytes());
         bytes.extend(random.bytes(length));
+    }
+    bytes.extend([END, END_ENTIRE, 4, 0]);
+    bytes
+}
+
+/// The nodes of so many boot options, each a file on a partition of an NVMe drive, in one path.
+pub fn boot_path(count: usize) -> Vec<u8> {
+    let (mut random, mut bytes) = (Random(SEED), Vec::new());
+    for _ in 0..count {
+        for (device_type, sub_type, length) in [ACPI, PCI, NVME, HARD_DRIVE, FILE_PATH] {
+            bytes.extend([device_type, sub_type]);
+            bytes.extend((length as u16 + HEADER as u16).to_le_bytes());
+            bytes.extend(random.bytes(length as u64));
+        }
     }
     bytes.extend([END, END_ENTIRE, 4, 0]);
     bytes

@@ -12,7 +12,7 @@ mod readers;
 mod sums;
 
 use inputs::{
-    STRIDE, configurations, digits, info, log1, log2, map, path, resources, times, value,
+    STRIDE, boot_path, configurations, digits, info, log1, log2, map, path, resources, times, value,
 };
 use measure::{Read, measure};
 use readers::config::{self, Configurations, Pairs};
@@ -21,7 +21,7 @@ use readers::path::Stop;
 use std::hint::black_box;
 use sums::{
     element_sum, first_of, log2_sum, node_sum, package_log2_sum, package_map, package_node_sum,
-    pair_sum, ranges, sum, text_of, whole,
+    package_value_sum, pair_sum, ranges, sum, text_of, value_sum, whole,
 };
 use uefi_formats::mem::memory_map::MemoryMap;
 use uefi_formats::proto::device_path::DevicePath;
@@ -35,6 +35,8 @@ unsafe extern "C" {
     fn port_path(bytes: *const u8, length: usize) -> u64;
     fn port_nodes(bytes: *const u8, length: usize) -> u64;
     fn port_instances(bytes: *const u8, length: usize) -> u64;
+    fn port_values(bytes: *const u8, length: usize) -> u64;
+    fn port_log(bytes: *const u8, length: usize) -> u64;
     fn port_log1(bytes: *const u8, length: usize, last_entry: usize) -> u64;
     fn port_log2(bytes: *const u8, length: usize, last_entry: usize, digests: u32) -> u64;
     fn port_map(bytes: *const u8, length: usize, desc_size: usize) -> u64;
@@ -60,6 +62,7 @@ const LOGS: Counts = [(200, "200 events"), (1_000_000, "1,000,000 events")];
 const RESOURCES: Counts = [(4, "4 resources"), (1_000_000, "1,000,000 resources")];
 const TIMES: Counts = [(1, "1 time"), (1_000_000, "1,000,000 times")];
 const PATHS: Counts = [(5, "5 nodes"), (1_000_000, "1,000,000 nodes, an instance each 50")];
+const BOOT_PATHS: Counts = [(1, "5 nodes of a boot option"), (200_000, "1,000,000 nodes of boot options")];
 
 /// Name, counts, the function that makes an input with so many items, and three readers: the proved
 /// one, the plain one, and that of the package.
@@ -81,7 +84,7 @@ const DIGESTS2: [Read; 3] = [
 
 /// The readers in the order of the page.
 #[rustfmt::skip]
-const READERS: [Reader; 17] = [
+const READERS: [Reader; 19] = [
     ("hex", DIGITS, digits, [
         |it| unsafe { port_hex(it.as_ptr(), it.len()) },
         |it| {
@@ -148,6 +151,11 @@ const READERS: [Reader; 17] = [
     ("logs: version 2, each of two digests", LOGS, log2::<2>, DIGESTS2),
     ("logs: version 2, four digests", LOGS, log2::<4>, EVENTS2),
     ("logs: version 2, each of four digests", LOGS, log2::<4>, DIGESTS2),
+    ("logs: `Log::read` and entries", LOGS, log2::<2>, [
+        |it| unsafe { port_log(it.as_ptr(), it.len()) },
+        whole_logs::plain_sum,
+        whole_logs::package_sum,
+    ]),
     ("PCI resources", RESOURCES, resources, [
         |it| unsafe { port_pci(it.as_ptr(), it.len()) },
         |it| black_box(ranges(it)).map_or(0, |list| {
@@ -187,6 +195,11 @@ const READERS: [Reader; 17] = [
             .map(|it| sum([it.len() as u64, node_sum(it, Stop::AnyEnd)])))),
         |it| DevicePath::try_from(it).map_or(0, |path| sum(path.instance_iter()
             .map(|it| sum([it.as_bytes().len() as u64, package_node_sum(it.node_iter())])))),
+    ]),
+    ("paths: `as_enum`", BOOT_PATHS, boot_path, [
+        |it| unsafe { port_values(it.as_ptr(), it.len()) },
+        |it| whole(it).map_or(0, value_sum),
+        |it| DevicePath::try_from(it).map_or(0, |path| sum(path.node_iter().map(package_value_sum))),
     ]),
 ];
 

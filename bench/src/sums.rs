@@ -3,11 +3,12 @@
 
 use crate::inputs::STRIDE;
 use crate::readers::log2::{Events, Header};
+use crate::readers::node::Value;
 use crate::readers::path::{Nodes, Stop, split};
 use crate::readers::pci::{RECORD_LENGTH, Range, records};
 use std::hint::black_box;
 use uefi_formats::mem::memory_map::{MemoryMapMeta, MemoryMapRef};
-use uefi_formats::proto::device_path::DevicePathNodeIterator;
+use uefi_formats::proto::device_path::{DevicePathNode, DevicePathNodeEnum, DevicePathNodeIterator};
 use uefi_formats::proto::tcg::v2::EventLog;
 
 pub fn sum(numbers: impl IntoIterator<Item = u64>) -> u64 {
@@ -45,6 +46,29 @@ pub fn node_sum(rest: &[u8], stop: Stop) -> u64 {
 
 pub fn package_node_sum(nodes: DevicePathNodeIterator<'_>) -> u64 {
     sum(nodes.map(|it| sum([it.device_type().0.into(), it.data().len() as u64])))
+}
+
+/// The sum over numbers of the path's nodes, as values of their types.
+pub fn value_sum(rest: &[u8]) -> u64 {
+    sum(Nodes { rest, stop: Stop::EndEntire }.map(|node| match Value::read(&node) {
+        Some(Value::Acpi { hid, uid }) => sum([hid.into(), uid.into()]),
+        Some(Value::Pci { function, device }) => sum([device.into(), function.into()]),
+        Some(Value::Nvme { namespace }) => namespace.into(),
+        Some(Value::HardDrive { start, size }) => sum([start, size]),
+        Some(Value::FilePath { name }) => (name.len() / 2) as u64,
+        None => 0,
+    }))
+}
+
+pub fn package_value_sum(node: DevicePathNode<'_>) -> u64 {
+    match node.as_enum() {
+        Ok(DevicePathNodeEnum::AcpiAcpi(it)) => sum([it.hid.into(), it.uid.into()]),
+        Ok(DevicePathNodeEnum::HardwarePci(it)) => sum([it.device.into(), it.function.into()]),
+        Ok(DevicePathNodeEnum::MessagingNvmeNamespace(it)) => it.namespace_identifier.into(),
+        Ok(DevicePathNodeEnum::MediaHardDrive(it)) => sum([it.partition_start, it.partition_size]),
+        Ok(DevicePathNodeEnum::MediaFilePath(it)) => it.path_name.len() as u64,
+        _ => 0,
+    }
 }
 
 /// The list, once no fault was found, as the Rust crate makes it: range by range.

@@ -34,5 +34,5 @@ def public_items(folder):
 def differing(folder, table):
     """The rows that one of them has alone."""
     with open(table, encoding="utf-8") as file:
-        rows = set(file.read().splitlines())
+        rows = set(re.sub(r" crate:\w+", "", file.read()).splitlines())
     return sorted(rows ^ public_items(folder))

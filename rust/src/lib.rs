@@ -94,15 +94,25 @@ pub mod proto {
             //! Device paths that are built node by node. Begin with [`DevicePathBuilder::with_buf`].
 
             // Where `uefi` has the types of nodes to build: here they are those that are read.
-            pub use crate::formats::uefi_node::{
-                acpi, bios_boot_spec, end, hardware, media, messaging,
-            };
+            pub use crate::formats::uefi_node::{acpi, bios_boot_spec, end, hardware, messaging};
             pub use crate::formats::uefi_path::build::*;
+
+            pub mod media {
+                //! Nodes of the type MEDIA: parts of a medium (UEFI 2.10, 10.3.5). [`FilePath`] is built
+                //! from a text.
+
+                pub use crate::formats::uefi_node::media::{
+                    CdRom, HardDrive, PartitionFormat, PartitionSignature, PiwgFirmwareFile,
+                    PiwgFirmwareVolume, Protocol, RamDisk, RamDiskType, RelativeOffsetRange, Vendor,
+                };
+                pub use crate::support::file_path::FilePath;
+            }
         }
 
         pub mod text {
             //! Device paths and nodes as text, and paths from text (UEFI 2.10, 10.6). Begin with
-            //! [`to_text`] and with [`DevicePath::from_text`](super::DevicePath::from_text).
+            //! [`to_text`] and with [`DevicePath::from_text`](super::DevicePath::from_text). `Display` of
+            //! a path, an instance or a node writes the text with both flags false.
             //!
             //! # Examples
             //!
@@ -133,8 +143,8 @@ pub mod proto {
             //! ```
 
             #[cfg(feature = "alloc")]
-            pub use crate::formats::uefi_node::from_text_in;
-            pub use crate::formats::uefi_node::{
+            pub use crate::formats::uefi_path_text::from_text_in;
+            pub use crate::formats::uefi_path_text::{
                 AllowShortcuts, DisplayOnly, FromTextError, NodeText, PathText, from_text,
                 instance_to_text, node_to_text, to_text, write_from_text,
             };
@@ -273,10 +283,10 @@ pub mod pcr {
     #[cfg(feature = "alloc")]
     pub use crate::formats::pcr_replay::ReadLog;
     pub use crate::formats::pcr_replay::{
-        Bank, BankPcrs, Fault, Ignored, NoQuoteDigest, PCR_COUNT, PcrValue, Pcrs, ReadLogError,
-        Start, Undetermined, entries, has_digest, has_measured, is_active, is_hash_of,
-        is_hash_of_data, is_quoted, locality_in, quote_digest, replay, replay_from,
-        startup_locality, stated_locality, why_ignored,
+        Bank, BankPcrs, Fault, Ignored, NoQuoteDigest, PCR_COUNT, PcrValue, Pcrs, Start,
+        Undetermined, entries, has_digest, has_measured, is_active, is_hash_of, is_hash_of_data,
+        is_quoted, locality_in, quote_digest, replay, replay_from, startup_locality,
+        stated_locality, why_ignored,
     };
     pub use crate::formats::tpm_quote::{
         ClockInfo, PcrSelection, PcrSelectionIter, Quote, QuoteError, SelectedPcrs,
@@ -368,6 +378,8 @@ mod from_text {
 
 #[cfg(feature = "alloc")]
 mod from_str {
+    use crate::proto::device_path::BoxedDevicePath;
+    use crate::proto::device_path::text::{FromTextError, from_text_in};
     use crate::proto::hii::config_str::{ConfigurationString, ParseError};
     use crate::{CString16, FromStrError};
     use core::str::FromStr;
@@ -385,6 +397,15 @@ mod from_str {
 
         fn try_from(text: &str) -> Result<CString16, FromStrError> {
             CString16::from_str(text)
+        }
+    }
+
+    /// As [`from_text_in`].
+    impl FromStr for BoxedDevicePath {
+        type Err = FromTextError;
+
+        fn from_str(text: &str) -> Result<BoxedDevicePath, FromTextError> {
+            from_text_in(text)
         }
     }
 

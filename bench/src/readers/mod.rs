@@ -7,6 +7,7 @@ pub mod info;
 pub mod log1;
 pub mod log2;
 pub mod map;
+pub mod node;
 pub mod path;
 pub mod pci;
 pub mod time;

@@ -10,8 +10,8 @@
 // So has a test of what is returned.
 #![allow(clippy::manual_contains, clippy::manual_find, clippy::manual_map, clippy::manual_ok_err)]
 #![allow(clippy::manual_unwrap_or, clippy::question_mark, clippy::redundant_pattern_matching)]
-// Rattle has neither this call of numbers nor `let` in a condition of several parts.
-#![allow(clippy::collapsible_if, clippy::manual_is_multiple_of)]
+// Rattle has no `let` in a condition of several parts.
+#![allow(clippy::collapsible_if)]
 // What is borrowed, and for how long, is written out there.
 #![allow(clippy::explicit_auto_deref, clippy::needless_borrows_for_generic_args)]
 #![allow(clippy::needless_lifetimes)]

@@ -59,7 +59,7 @@ fn write_number(out: &mut String, number: u64) -> Result<(), AllocError> {
         rest /= 10;
     }
     digits[start] += rest as u8;
-    out.fallible_push_str(str::from_utf8(&digits[start..]).unwrap_or_default())
+    out.fallible_push_str(core::str::from_utf8(&digits[start..]).unwrap_or_default())
 }
 
 /// Appends the items of an array.
@@ -168,7 +168,7 @@ impl<T: Into<Value>> From<Option<T>> for Value {
 /// An object of these members.
 macro_rules! json {
     ({$($key:literal: $value:expr),* $(,)?}) => {
-        (|| {
+        (|| -> Result<$crate::serde_json::Value, $crate::support::alloc::AllocError> {
             let mut members = $crate::serde_json::Map::new();
             $($crate::serde_json::put(&mut members, $key, $value)?;)*
             Ok($crate::serde_json::Value::Object(members))

@@ -8,8 +8,8 @@
 #![allow(clippy::explicit_counter_loop, clippy::needless_range_loop, clippy::while_let_on_iterator)]
 // So has a test of what is returned.
 #![allow(clippy::question_mark, clippy::redundant_pattern_matching)]
-// Rattle has neither these calls of numbers nor `let` in a condition of several parts.
-#![allow(clippy::collapsible_if, clippy::manual_div_ceil, clippy::manual_is_multiple_of)]
+// Rattle has neither this call of numbers nor `let` in a condition of several parts.
+#![allow(clippy::collapsible_if, clippy::manual_div_ceil)]
 // A part and what follows it are a pair, also of pairs.
 #![allow(clippy::type_complexity)]
 // The parameters are those of `uefi`, or a record's fields.
@@ -39,6 +39,8 @@ pub(crate) mod uefi_map;
 pub(crate) mod uefi_node;
 #[path = "../../src/formats/uefi_path/mod.rs"]
 pub(crate) mod uefi_path;
+#[path = "../../src/formats/uefi_path_text/mod.rs"]
+pub(crate) mod uefi_path_text;
 #[path = "../../src/formats/uefi_records/mod.rs"]
 pub(crate) mod uefi_records;
 #[path = "../../src/formats/uefi_tcg/mod.rs"]

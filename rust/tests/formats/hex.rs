@@ -42,7 +42,7 @@ pub fn encode(bytes: &[u8]) -> Result<String, crate::support::alloc::AllocError>
 
 /// Returns the bytes that digits spell.
 pub fn decode(digits: &[u8]) -> Result<Vec<u8>, FromHexError> {
-    if !digits.len().is_multiple_of(2) {
+    if digits.len() % 2 != 0 {
         return Err(FromHexError::OddLength);
     }
     let value = |index: usize| {

@@ -7,7 +7,7 @@
 #![allow(clippy::eq_op, clippy::field_reassign_with_default, clippy::useless_conversion)]
 // What these lints offer instead isn't in the source's std, or isn't proved.
 #![allow(clippy::double_ended_iterator_last, clippy::explicit_auto_deref, clippy::len_zero)]
-#![allow(clippy::manual_is_multiple_of, clippy::redundant_as_str, clippy::needless_lifetimes)]
+#![allow(clippy::redundant_as_str, clippy::needless_lifetimes)]
 #![allow(clippy::needless_borrows_for_generic_args, clippy::option_as_ref_deref)]
 #![allow(clippy::question_mark, clippy::while_let_on_iterator)]
 
@@ -23,6 +23,7 @@ mod audit_tests;
 mod base_rows;
 mod conversions;
 mod debug;
+mod display;
 mod equality;
 mod formats;
 mod hex;
@@ -41,6 +42,9 @@ mod panics;
 #[allow(dead_code, unused_imports)]
 mod path_rows;
 mod path_tests;
+#[allow(dead_code, unused_imports)]
+mod path_text_rows;
+mod path_text_tests;
 #[allow(dead_code)]
 mod quote_tests;
 #[allow(dead_code, unused_imports)]
@@ -53,15 +57,15 @@ mod sm3_tests;
 mod support;
 #[allow(dead_code, unused_imports)]
 mod tcg_rows;
-// There is no `Align` here, nor the test that has it.
-#[allow(unused_imports)]
 mod tcg_tests;
 // A sample is for the tests of the programs, and a table for none of these.
 #[allow(dead_code, unused_imports)]
 mod test_support;
+mod views;
 
 use formats::{
-    pcr_replay, tcg_event, tpm_quote, uefi_base, uefi_hii, uefi_map, uefi_node, uefi_path, uefi_records, uefi_tcg,
+    pcr_replay, tcg_event, tpm_quote, uefi_base, uefi_hii, uefi_map, uefi_node, uefi_path, uefi_path_text, uefi_records,
+    uefi_tcg,
 };
 
 mod sm3 {

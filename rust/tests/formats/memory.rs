@@ -38,6 +38,7 @@ fn paths_and_texts() -> Result<(), Fail> {
     takes_memory(&Ok(true), || unless(instance.to_boxed().map(|it| it.as_instance() == instance), AllocError))?;
     let text = "Acpi(0x04030201,0x8070605)";
     takes_memory(&Ok(true), || unless(from_text_in(text).map(|it| it.as_path() == path), FromTextError::Memory))?;
+    takes_memory(&Ok(true), || unless(text.parse::<BoxedDevicePath>().map(|it| it.as_path() == path), FromTextError::Memory))?;
     let ab = [0x61, 0x62, 0];
     let text = CStr16::from_u16_with_nul(&ab)?;
     takes_memory(&Ok(true), || unless(text.to_string().map(|it| it == "ab"), AllocError))?;

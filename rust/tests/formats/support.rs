@@ -6,6 +6,8 @@ pub mod alloc;
 pub(crate) mod bitflags;
 #[path = "../../src/support/debug.rs"]
 pub(crate) mod debug;
+#[path = "../../src/support/display.rs"]
+mod display;
 #[path = "../../src/support/sealed.rs"]
 pub(crate) mod sealed;
 #[path = "../../src/support/signed.rs"]

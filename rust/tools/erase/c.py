@@ -1,20 +1,47 @@
 """The functions for C: slices cross as structures, and what is only written may be uninitialized."""
 import re
 
+import idle
 from tokens import Rule, lex, rewrite
 
 # What C hands over for a slice, and a slice of what it hands over.
 PARAMETERS = {"[u8]": ("Bytes", "as_slice"), "mut [u8]": ("Buffer", "into_slice")}
-# Memory that C needn't set, in which a call works.
-WORKSPACE = 'UefiWorkspace'
+# What a parameter is that refers to what a call writes: C sets it before, or needn't; or it is memory in which the call works.
+SET, WRITTEN, WORKSPACE = 'set', 'written', 'workspace'
 EXPORTS = [Rule('#[unsafe(no_mangle)]', ''), Rule('pub extern "C" fn', 'pub fn')]
 
 
 def exported(source):
-    """Takes from the functions for C what makes them so, and returns their names."""
-    names = {source.item_name(keyword + 2) for _, keyword, _ in source.items() if source.at(keyword) == 'extern'}
+    """Takes from the functions for C what makes them so, and returns what the parameters of each are that refer to what it
+    writes."""
+    found = {source.item_name(keyword + 2): parameters(source, keyword + 2) for _, keyword, _ in source.items() if source.at(keyword) == 'extern'}
     rewrite(source, EXPORTS)
-    return names
+    return found
+
+
+def parameters(source, keyword):
+    """By the contract of a function: of what C sets it says more of the value before the call than that it stays; of memory
+    in which the call works it says nothing."""
+    opening = source.until(keyword, '(')
+    clauses = source.code(source.close(opening), source.body(keyword))
+    found = {}
+    for first, end in source.parts(opening):
+        name = source.at(first)
+        if '&' in source.code(first, end) and 'mut' in source.names(first, end):
+            said = re.sub(rf'\b{name}\.new ≡ {name}\.old(?= ?[}})×])', f'{name}.new', clauses)
+            found[name] = WORKSPACE if not re.search(rf'\b{name}\b', said) else SET if re.search(rf'\b{name}\.old\b', said) else WRITTEN
+    return found
+
+
+def uncalled(files):
+    """The modules of a crate, of its files (path, source), that have no function for C, and that no other module imports."""
+    modules, called = {stem.partition('/')[0] for stem, _ in files}, {'lib'}
+    for stem, source in files:
+        if any(source.at(keyword) == 'extern' for _, keyword, _ in source.items()):
+            called.add(stem.partition('/')[0])
+        for *_, paths in idle.imports(source):
+            called |= {path[1] for path in paths if path[0] == idle.home(source)[0] and path[1] != stem.partition('/')[0]}
+    return modules - called
 
 
 def to_c(source, exports, structs):
@@ -23,7 +50,7 @@ def to_c(source, exports, structs):
         if source.at(keyword) == 'struct' and source.item_name(keyword) in structs:
             fields_to_c(source, keyword, end)
         elif source.at(keyword) == 'fn' and source.item_name(keyword) in exports:
-            function_to_c(source, keyword, structs)
+            function_to_c(source, keyword, exports[source.item_name(keyword)], structs)
             replace(source, keyword, keyword + 1, 'extern "C" fn')
             inline = source.after(start + 1)
             if source.code(start, inline) != '#[inline]':
@@ -56,19 +83,6 @@ def slices_of(source):
     return found
 
 
-def split(source, opening):
-    """The parts of a list between its commas: (first token, index after the last)."""
-    close, start, i = source.close(opening), opening + 1, opening + 1
-    while i < close:
-        at = source.at(i)
-        if at == ',':
-            yield start, i
-            start = i + 1
-        i = source.angle(i) + 1 if at == '<' and source.angle(i) else source.after(i)
-    if start < close:
-        yield start, close
-
-
 def replace(source, first, end, text):
     new = lex(text)[:-1]
     new[0].space = source.tokens[first].space
@@ -84,19 +98,19 @@ def fields_to_c(source, keyword, end):
 
 
 def literal_to_c(source, opening, slices):
-    for first, end in reversed(list(split(source, opening))):
+    for first, end in reversed(list(source.parts(opening))):
         name = source.at(first)
         if name in slices:
             value = source.code(first + 2, end) if source.at(first + 1) == ':' else name
             replace(source, first, end, f'{name}: Bytes::new({value})')
 
 
-def function_to_c(source, keyword, structs):
-    """A function: `Bytes` for slices, and `MaybeUninit` for what is written and not read."""
+def function_to_c(source, keyword, kinds, structs):
+    """A function: `Bytes` for slices, and `MaybeUninit` for what C needn't set."""
     opening = source.until(keyword, '(')
     body = source.body(keyword)
     before, outs, inputs = [], {}, {}
-    for first, end in reversed(list(split(source, opening))):
+    for first, end in reversed(list(source.parts(opening))):
         colon = next(i for i in range(first, end) if source.at(i) == ':')
         name, kind = source.at(first), source.code(colon + 1, end)
         life = source.at(colon + 2) if source.at(colon + 2).startswith("'") else None
@@ -105,15 +119,15 @@ def function_to_c(source, keyword, structs):
             of, call = PARAMETERS[plain]
             before.insert(0, f"let {name} = {name}.{call}();")
             replace(source, colon + 1, end, f"{of}<{life or chr(39) + '_'}>")
-        elif plain == f'mut {WORKSPACE}':
+        elif kinds.get(name) == WORKSPACE:
             before.insert(0, f"let {name} = workspace_in({name});")
-            replace(source, colon + 1, end, f"&mut MaybeUninit<{WORKSPACE}>")
-        elif plain.startswith('mut ') and name not in ('offset', 'cursor'):
+            replace(source, colon + 1, end, f"&mut MaybeUninit<{plain.removeprefix('mut ')}>")
+        elif kinds.get(name) == WRITTEN:
             of = plain.removeprefix('mut ')
             outs[name] = of.endswith('[u8]')
             replace(source, colon + 1, end, f"&mut MaybeUninit<{'Bytes<' + chr(39) + 'a>' if outs[name] else of}>")
-        elif plain.split('<')[0] in structs:
-            inputs[name] = structs[plain.split('<')[0]]
+        elif plain.removeprefix('mut ').split('<')[0] in structs:
+            inputs[name] = structs[plain.removeprefix('mut ').split('<')[0]]
         source.tokens[colon + 1].space = ' '
     body = source.body(keyword)
     writes_to_c(source, body, outs)
@@ -136,7 +150,8 @@ def writes_to_c(source, body, outs):
     i = source.close(body)
     while i > body:
         i -= 1
-        if source.at(i) not in outs or source.tokens[i].kind != 'name' or source.at(i - 1) == '.':
+        is_field = source.at(i - 1) == '.' or source.at(i + 1) == ':'
+        if source.at(i) not in outs or source.tokens[i].kind != 'name' or is_field:
             continue
         if source.at(i - 1) != '*' or source.at(i + 1) != '=':
             source.refuse(i, 'what C may leave uninitialized is read, or written in part')

@@ -7,15 +7,18 @@ import textwrap
 BLOCK = re.compile(r'(?:^|(?<=\n))([ ]*)//([/!])[^\n]*(?:\n\1//\2[^\n]*)*')
 # Of what a sentence doesn't speak here: a caller in Rust sees no contract, and passes no allocator.
 PROOF = re.compile(r'specs/|\b(contracts?|prove[sdn]?|proofs?|laws?|clauses?|ghost|allocators?)\b')
-ASIDE = re.compile(r' ?\(\[`\w+`\]\(crate::laws::\w+\)\)|, with\s+their\s+contracts,')
+ASIDE = r', with\s+their\s+contracts,'
 SENTENCE = re.compile(r'(?<=[.:])\s+(?=[A-Z`\[])')
 
 
 class Docs:
-    """The folder of the examples, and which of them have been used."""
+    """The folder of the examples, and which of them have been used; and the paths of functions that aren't written, to which
+    no link is."""
 
-    def __init__(self, folder, libraries, home='crate::formats'):
+    def __init__(self, folder, libraries, home='crate::formats', gone=()):
         self.folder, self.home, self.used, self.unsaid = folder, home, set(), PROOF
+        links = (rf' ?\(\[`\w+`\]\((?:crate|{crate})::{"::".join(path)}\)\)' for crate, *path in sorted(gone))
+        self.aside = re.compile('|'.join([ASIDE, *links]))
         self.path = re.compile(rf'(?<=[`(\[])(crate|{"|".join(libraries)})::')
 
     def files(self):
@@ -40,7 +43,7 @@ class Docs:
         indent, mark = found[1], found[2]
         text = '\n'.join(line.strip()[3:].removeprefix(' ') for line in found[0].split('\n'))
         text = self.with_example(source, i, text, example) if '```' in text else text
-        parts = [paragraph(part, 96 - len(indent), self.unsaid) for part in ASIDE.sub('', text).split('\n\n')]
+        parts = [paragraph(part, 96 - len(indent), self.unsaid) for part in self.aside.sub('', text).split('\n\n')]
         text = '\n\n'.join(part for part in parts if part)
         text = self.path.sub(lambda it: f'{self.home}::{crate if it[1] == "crate" else it[1]}::', text)
         return '\n'.join(f'{indent}//{mark} {line}'.rstrip() for line in text.split('\n')) if text else ''

@@ -1,10 +1,10 @@
 """Which items are public: those of the table `exports`, by the paths that a user of the package has. A row is the path of
 an item, and the names of its members: fields, variants, and what its own `impl` blocks and its trait have. The others are
-`pub(crate)`. A function is `const` after CONST. OPEN is for what may get more fields or variants, SEALED for a trait that
-no other package implements."""
+`pub(crate)`. A function is `const` after CONST. A private field that what is by hand reads is `pub(crate)` after CRATE.
+OPEN is for what may get more fields or variants, SEALED for a trait that no other package implements."""
 from tokens import lex
 
-CONST, OPEN, SEALED = 'const:', '[non_exhaustive]', '[sealed]'
+CONST, CRATE, OPEN, SEALED = 'const:', 'crate:', '[non_exhaustive]', '[sealed]'
 NAMED = ('const', 'enum', 'fn', 'static', 'struct', 'trait', 'type')
 
 
@@ -67,6 +67,13 @@ def restrict_fields(source, keyword, end, members):
         name = source.at(i + 1) if source.at(i + 2) == ':' else '0'
         if source.at(i) == 'pub' and source.at(i + 1) not in ('(', 'ghost') and name not in members:
             restrict(source, i)
+
+
+def open_fields(source, keyword, members):
+    """Makes private fields `pub(crate)` that these members name so."""
+    for i in range(source.after(source.until(keyword, ';', '{')) - 1, keyword, -1):
+        if source.at(i + 1) == ':' and source.at(i - 1) in ('{', ',') and f'{CRATE}{source.at(i)}' in members:
+            source.tokens[i:i] = attribute(source, i, 'pub(crate)')
 
 
 class Exports:
@@ -135,6 +142,7 @@ class Exports:
                 elif kind in ('enum', 'struct'):
                     members = self.members(crate, module, name)
                     restrict_fields(source, keyword, end if kind == 'struct' else keyword, members)
+                    open_fields(source, keyword, members)
                     source.tokens[start:start] = attribute(source, start, '#[non_exhaustive]') if OPEN in members else []
         for crate, module, source in self.files:
             self.seal(crate, module, source)

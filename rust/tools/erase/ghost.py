@@ -1,19 +1,26 @@
 """Deletes ghost text: what only the prover reads."""
+from allocators import Allocators
+from idle import Idle
 from rules import GHOST
 from tokens import CLAUSES, CLOSE, rewrite
 
 
-def erase(source):
-    """Deletes the ghost text of a file."""
+class Known:
+    """What the whole source says: which functions do nothing, and what is an allocator."""
+
+    def __init__(self, sources):
+        self.idle, self.allocators = Idle(sources), Allocators(sources)
+
+
+def erase(source, known):
+    """Deletes the ghost text of a file, and marks its allocators."""
     for names, delete in ((('ghost',), member), (CLAUSES, clause)):
         for i in range(len(source.tokens) - 1, -1, -1):
             if source.is_name(i, *names):
                 delete(source, i)
     rewrite(source, GHOST)
-    for start, keyword, end in reversed(list(source.items())):
-        # A test that calls laws, which do nothing.
-        if any(source.at(i) == 'laws' and source.at(i + 1) == '::' for i in range(keyword, end)):
-            source.cut(start, end)
+    known.idle.erase(source)
+    known.allocators.mark(source)
     for i, token in enumerate(source.tokens):
         if token.kind in ('name', 'sign') and not token.text.isascii():
             source.refuse(i, f'ghost text is left: {token.text}')

@@ -1,9 +1,9 @@
 """The hash functions: they take what is as bytes, and their copies are Rust's, since none needs memory."""
+import as_bytes
 import rust
 from tokens import Rule, rewrite
 
 HASHES = [Rule(before, after) for before, after in [
-    ('use std::convert::AsSlice;', ''), ('AsSlice<u8>', 'AsRef<[u8]>'), ('data.as_slice()', 'data.as_ref()'),
     ('use std::alloc::AllocError;', ''),
     ("'bytes: for i in 0..N { out[i] = digest[i]; }", 'out.copy_from_slice(&digest[..N]);'),
     # Functions of a trait that no type has in another form, and what is left of a bound.
@@ -21,4 +21,5 @@ def to_core(source):
     for i in range(len(source.tokens) - 2, -1, -1):
         if source.is_name(i, 'struct') and source.at(i + 1) in copied:
             source.insert(rust.head(source, i), '#[derive(Clone)]')
+    as_bytes.to_as_ref(source)
     rewrite(source, HASHES)

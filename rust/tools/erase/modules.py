@@ -3,8 +3,7 @@
 LINTS = {
     'A loop has the form that its proof is about.': ['explicit_counter_loop', 'needless_range_loop', 'while_let_on_iterator'],
     'So has a test of what is returned.': ['question_mark', 'redundant_pattern_matching'],
-    'Rattle has neither these calls of numbers nor `let` in a condition of several parts.':
-        ['collapsible_if', 'manual_div_ceil', 'manual_is_multiple_of'],
+    'Rattle has neither this call of numbers nor `let` in a condition of several parts.': ['collapsible_if', 'manual_div_ceil'],
     'A part and what follows it are a pair, also of pairs.': ['type_complexity'],
     "The parameters are those of `uefi`, or a record's fields.": ['too_many_arguments'],
 }

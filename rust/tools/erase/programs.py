@@ -1,7 +1,9 @@
 """The programs: their files call the package `uefi-formats` by the paths that a user has, and the host by `crate::host`."""
 import re
 
+import as_bytes
 import gate
+import idle
 import rust
 from exports import OPEN, imported
 from tokens import Rule, lex, rewrite
@@ -11,17 +13,13 @@ HOST, COLLECTIONS, STD = {'env', 'fs', 'io', 'rt'}, {'collections'}, {'process'}
 HANDLES = {'Eprint', 'Input', 'Print'}
 PROGRAMS = [Rule(before, after) for before, after in [
     # The handle of the host, whose allocator goes.
-    ('fn main(rt: HostRuntime) -> ExitCode {', 'pub fn main() -> ExitCode { \n    let rt = host::HostRuntime;'),
-    ('+ AllocGlobal', ''), ('DirEntry<R>', 'DirEntry'), ('use std::{$a, $b};', 'use std::$a;\nuse std::$b;'),
-    ('eprintln!(rt; $next', 'fallible_eprintln!(rt, $next'), ('eprint!(rt; $next', 'fallible_eprint!(rt, $next'),
-    *((f'format!(in {alloc}; $next', 'fallible_format!($next') for alloc in ('alloc', 'rt.alloc()')), ('json!(in alloc; $next', 'json!($next'),
-    ('vec![in alloc; $$items]', 'fallible_vec![$$items]'), ('unsafe { String::from_utf8_unchecked($$bytes) }', 'String::from_utf8($$bytes).expect("UTF-8")'),
-    ('vec![in rt.alloc(); $$item; $$count]', 'Vec::fallible_from_elem($$item, $$count)'),
-    ('.sort()', '.fallible_sort()'), ('.join(alloc, $next', '.fallible_join($next'), ('.to_string(alloc)', '.fallible_to_string()'),
-]]
-# What is taken as bytes.
-BYTES = [Rule(before, after) for before, after in [
-    ('use std::convert::AsSlice;', ''), ('AsSlice<u8>', 'AsRef<[u8]>'), ('.as_slice()', '.as_ref()'),
+    ('fn main($handle: HostRuntime) -> ExitCode {', 'pub fn main() -> ExitCode { \n    let $handle = host::HostRuntime;'),
+    ('+ AllocGlobal', ''), ('DirEntry<$handle>', 'DirEntry'), ('use std::{$a, $b};', 'use std::$a;\nuse std::$b;'),
+    ('eprintln!($handle; $next', 'fallible_eprintln!($handle, $next'), ('eprint!($handle; $next', 'fallible_eprint!($handle, $next'),
+    ('json!(in $alloc; $next', 'json!($next'),
+    ('vec![in $alloc; $$item; $$count]', 'Vec::fallible_from_elem($$item, $$count)'), ('vec![in $alloc; $$items]', 'fallible_vec![$$items]'),
+    ('unsafe { String::from_utf8_unchecked($$bytes) }', 'String::from_utf8($$bytes).expect("UTF-8")'),
+    ('.sort()', '.fallible_sort()'), ('.join($alloc, $next', '.fallible_join($next'), ('.to_string($alloc)', '.fallible_to_string()'),
 ]]
 
 
@@ -101,6 +99,20 @@ def close_matches(source, library):
             source.tokens[close:close] = new
 
 
+def tests_of(files, crates):
+    """The modules of a crate of tests that import from these crates, and those that have no others."""
+    gone, before = set(), -1
+    while before != len(gone):
+        before = len(gone)
+        for stem, source in files:
+            path = '/'.join(idle.home(source))
+            kinds = [(source.at(keyword), f'{path}/{source.item_name(keyword)}') for _, keyword, _ in source.items()]
+            imports = any(it[0] in crates for *_, paths in idle.imports(source) for it in paths)
+            has_others = not kinds or any(kind not in ('mod', 'use') or kind == 'mod' and it not in gone for kind, it in kinds)
+            gone |= {path} if stem != 'lib' and (imports or not has_others) else set()
+    return frozenset(gone)
+
+
 def drop_makers(source, names):
     """Drops functions of tests that make a value of a type that may get more fields: only its package can."""
     for start, keyword, end in reversed(list(source.items())):
@@ -118,7 +130,7 @@ def std(source, i, root):
     return rust.std(source, i, 'crate::formats')
 
 
-FORMS = rust.Forms(std, ['rt'], ['fallible_eprint', 'fallible_eprintln', 'fallible_vec', 'json', 'value_parser'], inline=False)
+FORMS = rust.Forms(std, ['fallible_eprint', 'fallible_eprintln', 'fallible_vec', 'json', 'value_parser'], handle=True, inline=False)
 
 
 def drop_uncalled(source):
@@ -132,8 +144,7 @@ def drop_uncalled(source):
 def to_program(source, library, crate, crates):
     """Writes a file without ghost text of the programs' package."""
     rewrite(source, PROGRAMS)
-    if 'AsSlice' in source.names():
-        rewrite(source, BYTES)
+    as_bytes.to_as_ref(source)
     crate_names = '|'.join(library.public.crates)
     links = re.compile(rf'(?<=[`(\[])({crate_names})(::\w+)+|(?<=\[`)({crate_names})(?=`\])')
     for token in source.tokens:

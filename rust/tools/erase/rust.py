@@ -1,30 +1,28 @@
 """Writes what is left in Rust: without allocators, over `core`, in the modules of this package."""
 import re
 
-from rules import ALLOCATOR, ATTRIBUTES, CORE, EMPTY, MACROS, MAIN, NO_RULE, RUST, STD, SUPPORT, TESTS
-from tokens import OPEN, Rule, lex, rewrite
+import allocators
+from rules import ATTRIBUTES, CORE, EMPTY, MACROS, MAIN, NO_RULE, RUST, STD, SUPPORT, TESTS
+from tokens import HANDLE, OPEN, TYPE, VALUE, Rule, lex, rewrite
 
 
 class Forms:
-    """What a file may have beside what `rules.py` allows: names and macros; what stands for `std`; and whether its functions
-    have callers in other crates."""
-    def __init__(self, std, names=(), macros=(), inline=True):
-        self.std, self.names, self.macros, self.inline = std, set(names), set(macros), inline
+    """What a file may have beside what `rules.py` allows: macros, and the handle of the host; what stands for `std`; and
+    whether its functions have callers in other crates."""
+    def __init__(self, std, macros=(), handle=False, inline=True):
+        self.std, self.macros, self.handle, self.inline = std, set(macros), handle, inline
 
 
 def to_rust(source, modules, root, tests, more=None):
     """Writes a file without ghost text in Rust. `root` is the module of its crate, `modules` those of others."""
     more = more or Forms(std)
+    fallible_writes(source)
     rewrite(source, TESTS + RUST if tests else RUST)
     for start, keyword, end in reversed(list(source.items())):
         # What the macro has.
         if source.code(keyword, keyword + 3) == 'impl Flags for':
             source.cut(start, end)
-    for i in range(len(source.tokens) - 1, -1, -1):
-        sign = source.tokens[i].kind == 'sign' and source.at(i)
-        close = source.close(i) if sign in OPEN else source.angle(i) if sign == '<' else None
-        if close:
-            drop_elements(source, i, close)
+    allocators.drop(source)
     rewrite(source, EMPTY)
     for i, token in enumerate(source.tokens):
         if token.kind == 'name' and source.at(i + 1) == '::' and source.at(i - 1) not in ('::', '.'):
@@ -40,7 +38,19 @@ def to_rust(source, modules, root, tests, more=None):
 def main_to_test(source, files):
     """Makes a test of the `main` of a program that answers the rows of files."""
     texts = ''.join(f'\n        ("{name}", include_str!("{name}")),' for name in files)
-    rewrite(source, [*MAIN, Rule('answered(&rt,', f'answered(&[{texts}\n    ],')])
+    handle = next(token.text for token in source.tokens if token.kind == HANDLE)
+    rewrite(source, [*MAIN, Rule(f'(&{handle},', f'(&[{texts}\n    ],')])
+
+
+def fallible_writes(source):
+    """What is written returns the error of its memory, but to a formatter."""
+    formatters = {}
+    for keyword in (i for i in range(len(source.tokens) - 2) if source.is_name(i, 'fn') and source.is_name(i + 1)):
+        names = {source.at(name) for name, first, end in allocators.typed(source, source.parameters(keyword)) if 'Formatter' in source.names(first, end)}
+        formatters |= {i: names for i in range(keyword, source.after(source.body(keyword)))}
+    for i, token in enumerate(source.tokens):
+        if source.is_name(i, 'write', 'writeln') and source.at(i + 1) == '!' and source.at(i + 3) not in formatters.get(i, ()):
+            token.text, source.tokens[i + 3].space = f'fallible_{token.text}', ''
 
 
 def labels(source):
@@ -51,21 +61,6 @@ def labels(source):
         if named and source.at(i) not in called:
             source.tokens[i + 2].space = source.tokens[i].space
             del source.tokens[i:i + 2]
-
-
-def drop_elements(source, opening, close):
-    """Drops allocators from a list, and the brackets of a list of types of which nothing is left."""
-    count, i = len(source.tokens), close
-    while i > opening:
-        start = next(j for j in range(i - 1, opening - 1, -1) if j == opening or source.at(j) == ',')
-        if start + 1 < i and ALLOCATOR.fullmatch(source.code(start + 1, i)):
-            last = source.at(i) != ','
-            source.tokens[i + 1 - last].space = source.tokens[start + 1].space if not last else source.tokens[i].space
-            del source.tokens[start + (not last or source.at(start) != ','):i + (not last)]
-        i = start
-    close -= count - len(source.tokens)
-    if source.at(opening) == '<' and close == opening + 1:
-        del source.tokens[opening - (source.at(opening - 1) == '::'):close + 1]
 
 
 def std(source, i, root):
@@ -156,14 +151,15 @@ def check(source, more):
                 source.refuse(i, 'an attribute without a rule')
         # `if !(..)` is none.
         macro = following == '!' and not source.tokens[i + 1].space and source.at(i + 2) in OPEN and token.text not in MACROS | more.macros
-        if token.kind == 'name' and (macro or token.text in NO_RULE - more.names and '::' not in (source.at(i - 1), following)):
+        left = token.kind in (VALUE, TYPE) or token.kind == HANDLE and not more.handle
+        if left or token.kind == 'name' and (macro or token.text in NO_RULE and '::' not in (source.at(i - 1), following)):
             source.refuse(i, f'no rule: {token.text}')
 
 
 def calls_fallible(source, i, in_library):
     """Whether a name is that of a call of the support's traits, and no macro."""
     name, following = source.at(i), source.at(i + 1)
-    return name.startswith('fallible_') and following != '!' or name == 'text' and following == '(' and source.at(i - 1) == '.' and not in_library
+    return name.startswith('fallible_') and following != '!' or name == 'text' and source.code(i - 4, i) == 'to_string().' and not in_library
 
 
 def text_of(source, in_library, gate, imports=()):

@@ -10,6 +10,8 @@ TOKEN = re.compile(r'''
 | (?P<sign>::|->|=>|\.\.=|\.\.|==|!=|<=|>=|&&|\|\||.)
 ''', re.X | re.S)
 OPEN, CLOSE, CLAUSES = {'(', '[', '{'}, {')', ']', '}'}, {'requires', 'ensures'}
+# The kinds of names that are marked: allocators, their types, and handles of the host.
+VALUE, TYPE, HANDLE = 'allocator', 'type of allocators', 'handle'
 
 
 class Refused(Exception):
@@ -74,6 +76,23 @@ class Source:
         """The index after the token at an index, or after the bracket that opens there."""
         return (self.close(i) if self.tokens[i].kind == 'sign' and self.at(i) in OPEN else i) + 1
 
+    def parameters(self, keyword):
+        """The index of the bracket before the parameters of a function."""
+        generic = self.at(keyword + 2) == '<'
+        return self.until(self.angle(keyword + 2) + 1 if generic else keyword + 2, '(')
+
+    def parts(self, opening, close=None):
+        """The parts of a list between its commas: (first token, index after the last)."""
+        close = close or (self.angle(opening) if self.at(opening) == '<' else self.close(opening))
+        start = i = opening + 1
+        while i < close:
+            if self.at(i) == ',':
+                yield start, i
+                start = i + 1
+            i = self.angle(i) + 1 if self.at(i) == '<' and self.angle(i) else self.after(i)
+        if start < close:
+            yield start, close
+
     def angle(self, i):
         """The index of the `>` that closes the `<` at an index, or None where it is a comparison."""
         depth, j = 0, i
@@ -95,7 +114,7 @@ class Source:
     def body(self, i):
         """The index of the `{` of an item's body, or of its `;`, past its clauses."""
         i = self.until(i, ';', '{')
-        while self.at(i) == '{' and {self.at(i - 1), self.at(i - 2), self.at(i - 3)} & CLAUSES:
+        while self.at(i) == '{' and {self.at(i - 1), self.at(i - 2), self.at(i - 3)} & {*CLAUSES, 'ghost'}:
             i = self.until(self.after(i), ';', '{')
         return i
 
@@ -156,7 +175,7 @@ class Source:
 
 class Rule:
     """Tokens, and what they are written as. `$x` is one token or bracket; `$$x` is what comes before the
-    next token of the rule, without braces and semicolons."""
+    next token of the rule, without braces and semicolons; `$alloc` is an allocator."""
 
     def __init__(self, before, after):
         self.before = [token.text for token in lex(before)[:-1]]
@@ -168,6 +187,8 @@ class Rule:
         for n, want in enumerate(self.before):
             start = i
             if not want.startswith('$') and source.at(i) != want or not source.at(i):
+                return None
+            if want == '$alloc' and source.tokens[i].kind != VALUE:
                 return None
             while want.startswith('$$') and source.at(i) != self.before[n + 1]:
                 if source.at(i) in ('{', ';', '', *CLOSE):

@@ -17,7 +17,7 @@ pub use self::diff::push_differences_json;
 pub use self::event::event_line;
 pub(crate) use self::event::type_json;
 pub use self::events::push_events;
-pub(crate) use self::line::line_of;
+pub(crate) use self::line::push_line;
 pub use self::quote::push_quote_json;
 pub use self::replay::push_replay_json;
 pub use self::unjudged::{NotJudged, push_unjudged_json};

@@ -13,5 +13,6 @@ pub use self::compared_logs::ComparedLogs;
 
 mod compared_logs;
 pub mod json;
+mod parts;
 pub mod text;
 pub mod words;

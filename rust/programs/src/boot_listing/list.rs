@@ -14,8 +14,8 @@ use crate::boot_listing::variables::{
 use crate::shown::{Hex, HexNumber, ShownName, gap_before};
 use crate::support::alloc::AllocError;
 use uefi_formats::UnalignedSlice;
-use uefi_formats::proto::device_path::text::{AllowShortcuts, DisplayOnly, to_text};
 use uefi_formats::proto::device_path::{LoadOption, LoadOptionAttributes};
+use uefi_formats::proto::device_path::text::{AllowShortcuts, DisplayOnly, to_text};
 
 /// Returns the lines of the boot manager's variables among the files of a folder: `BootCurrent` and
 /// `BootOrder`, if they are there, each with the names of boot options; then the boot options, those

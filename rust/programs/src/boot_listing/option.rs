@@ -11,8 +11,8 @@ use crate::boot_listing::refusal::push_refusal;
 use crate::shown::{Hex, HexName, HexNumber, gap_before};
 use crate::support::alloc::AllocError;
 use uefi_formats::UnalignedSlice;
-use uefi_formats::proto::device_path::text::{AllowShortcuts, DisplayOnly, to_text};
 use uefi_formats::proto::device_path::{LoadOption, LoadOptionAttributes, LoadOptionError};
+use uefi_formats::proto::device_path::text::{AllowShortcuts, DisplayOnly, to_text};
 
 /// Appends the text of a load option.
 ///
@@ -137,5 +137,6 @@ pub(crate) fn fault_of(error: LoadOptionError) -> &'static str {
         LoadOptionError::NotNulTerminated => "refused NotNulTerminated",
         LoadOptionError::FilePathListTooLong => "refused FilePathListTooLong",
         LoadOptionError::FilePath(_) => "refused FilePath",
+        _ => unreachable!(),
     }
 }

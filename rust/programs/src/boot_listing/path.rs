@@ -58,5 +58,6 @@ fn push_error(
         FromTextError::TooLong(_) => push_refusal(text, form, "refused TooLong"),
         FromTextError::Buffer(_) => push_refusal(text, form, "refused Buffer"),
         FromTextError::Memory => Err(AllocError),
+        _ => unreachable!(),
     }
 }

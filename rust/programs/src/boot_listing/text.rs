@@ -9,8 +9,8 @@ use crate::boot_listing::command::Form;
 use crate::boot_listing::json::JsonText;
 use crate::boot_listing::refusal::push_refusal;
 use crate::support::alloc::AllocError;
-use uefi_formats::proto::device_path::text::{AllowShortcuts, DisplayOnly, instance_to_text};
 use uefi_formats::proto::device_path::{ByteConversionError, DevicePath, DevicePathInstance};
+use uefi_formats::proto::device_path::text::{AllowShortcuts, DisplayOnly, instance_to_text};
 
 /// Appends a device path as text: for each instance a line with its text, such as
 /// `PciRoot(0x0)/Pci(0x1F,0x0)` (UEFI 2.10, 10.6.1). In JSON the texts are `paths` of an object.

@@ -58,8 +58,10 @@ impl<'a> Parser<'_, 'a> {
         if let (Some(value), false) = (value, arg.takes_value()) {
             let shown = unique(self.used().chain([arg]))?;
             self.forget_pending()?;
-            let wrong = format_args!("unexpected value '{value}' for '{arg}' found; no more were expected");
-            return self.command.fail(wrong, Some(&shown));
+            return self.command.fail(
+                format_args!("unexpected value '{value}' for '{arg}' found; no more were expected"),
+                Some(&shown),
+            );
         }
         self.judge_pending()?;
         if value.is_none() && arg.takes_value() {
@@ -71,8 +73,9 @@ impl<'a> Parser<'_, 'a> {
 
     /// Reads a value of the option before it, or of a positional.
     fn read_value(&mut self, word: &'a str, after_hyphens: bool) -> Result<(), Error> {
-        if let Some((_, values)) = &mut self.pending && values.is_empty() && !after_hyphens {
-            return Ok(values.fallible_push(word)?);
+        match &mut self.pending {
+            Some((_, values)) if values.is_empty() && !after_hyphens => return Ok(values.fallible_push(word)?),
+            _ => {}
         }
         let Some(arg) = self.command.positionals().nth(self.filled) else {
             return self.fail_for_word(word, after_hyphens);
@@ -168,8 +171,11 @@ impl<'a> Parser<'_, 'a> {
         self.forget_pending()?;
         let command = self.command;
         if after_hyphens && command.subcommand_named(word).is_some() {
-            let tip = format_args!("subcommand '{word}' exists; to use it, remove the '--' before it");
-            return command.fail(format_args!("unexpected argument '{word}' found\n\n  tip: {tip}"), Some(&[]));
+            let tip = "exists; to use it, remove the '--' before it";
+            return command.fail(
+                format_args!("unexpected argument '{word}' found\n\n  tip: subcommand '{word}' {tip}"),
+                Some(&[]),
+            );
         }
         let similar = similar(word, command.below.iter().map(|below| below.name))?;
         let (what, tip) = match similar.len() {

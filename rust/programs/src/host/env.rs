@@ -30,7 +30,7 @@ pub fn args<R: Env>(rt: &R) -> io::Result<std::vec::IntoIter<String>> {
             Err(FillError::NotPresent) => return Ok(words.into_iter()),
             Err(FillError::TooLong) => return Err(io::Error::Kind(io::ErrorKind::OutOfMemory)),
             Ok(length) => {
-                let word = str::from_utf8(&buffer[..length]).map_err(|_| io::Error::Kind(io::ErrorKind::InvalidData))?;
+                let word = core::str::from_utf8(&buffer[..length]).map_err(|_| io::Error::Kind(io::ErrorKind::InvalidData))?;
                 let word = <String as FallibleString>::fallible_from_str(word).map_err(no_memory)?;
                 words.fallible_push(word).map_err(no_memory)?;
             }

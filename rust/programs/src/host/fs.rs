@@ -74,7 +74,7 @@ pub struct DirEntry {
 impl DirEntry {
     /// Returns the entry of a name, which has to be UTF-8.
     fn new(folder: &str, name: &[u8]) -> Result<DirEntry> {
-        let name = str::from_utf8(name).map_err(|_| Error::Kind(ErrorKind::InvalidFilename))?;
+        let name = core::str::from_utf8(name).map_err(|_| Error::Name)?;
         Ok(DirEntry { path: joined(folder, name)?, name_start: folder.len() })
     }
 

@@ -14,6 +14,8 @@ pub enum Error {
     System(i32),
     /// No number of it.
     Kind(ErrorKind),
+    /// A name in a folder isn't UTF-8: Rust's own kind is newer than the oldest rustc.
+    Name,
 }
 
 /// A result of a call of the host.
@@ -25,6 +27,7 @@ impl Error {
         match *self {
             Error::System(code) => std::io::Error::from_raw_os_error(code).kind(),
             Error::Kind(kind) => kind,
+            Error::Name => ErrorKind::InvalidData,
         }
     }
 }
@@ -41,6 +44,7 @@ impl fmt::Display for Error {
         match *self {
             Error::System(code) => system::write_message(f, code),
             Error::Kind(kind) => write!(f, "{kind}"),
+            Error::Name => f.write_str("invalid filename"),
         }
     }
 }

@@ -5,20 +5,20 @@ use crate::host::rt::{Eprint, Input, Print};
 use crate::uefi_audit::checking::quoted_pcrs;
 use crate::uefi_audit::comparison::difference_report;
 use crate::uefi_audit::failure::{Failure, Status};
+use crate::uefi_audit::file_name::FileName;
 use crate::uefi_audit::input::{file_bytes, held_pcrs};
 use crate::uefi_audit::log_file::{Opened, open_log};
 use crate::uefi_audit::quote::{NotReceived, received_quote};
 use crate::uefi_audit::quote_check::{QuoteCheck, quote_report};
 use crate::uefi_audit::replay::Asked;
-use crate::uefi_audit::report::unjudged_text;
+use crate::uefi_audit::replay_counts::ReplayCounts;
+use crate::uefi_audit::report::{Report, unjudged_text};
 use crate::uefi_audit::request::{AskedCoverage, AskedQuote, Compared, Format, Reading, Request, Verification};
-use crate::uefi_audit::starts::Starts;
 use crate::uefi_audit::task::{Task, task_report};
 use crate::uefi_audit::verification::{StatedPcrs, verify_report};
 use crate::audit_text::json::NotJudged;
 use crate::hex::FromHexError;
 use crate::shown::ShownName;
-use crate::host::io::{self, Write};
 use crate::host::rt::Files;
 use crate::uefi_audits::verify::{
     HeldPcr, NamedPcr, PcrSelection, ReceivedQuote, asked_pcrs, selections_in,
@@ -95,7 +95,7 @@ fn pcrs_in_quote<R: Files + Input + Eprint>(
     rt: &R,
     file: &str,
 ) -> Result<Result<Vec<NamedPcr>, Status>, Failure> {
-    let Some(bytes) = file_bytes(rt, file) else {
+    let Some(bytes) = file_bytes(rt, FileName::of(file)) else {
         return Ok(Err(Status::Unread));
     };
     let name = ShownName(file);
@@ -120,12 +120,12 @@ fn each_log<R: Files + Input + Print + Eprint>(
     task: Task<'_>,
 ) -> Result<Status, Failure> {
     let mut status = Status::Well;
-    let mut starts = Starts::default();
+    let mut counts = ReplayCounts::default();
     for name in logs {
-        status = status.and(do_task(rt, *name, reading, task, &mut starts)?);
+        status = status.and(do_task(rt, *name, reading, task, &mut counts)?);
     }
-    if starts.assumed > 0 {
-        let Starts { assumed, replayed } = starts;
+    if counts.assumed > 0 {
+        let ReplayCounts { assumed, replayed } = counts;
         let _ = fallible_eprintln!(rt, "uefi_audit: no locality is stated by {assumed} of {replayed} logs that were replayed; \
              PCR 0 starts at locality 0"
         );
@@ -139,15 +139,15 @@ fn do_task<R: Files + Input + Print + Eprint>(
     name: &str,
     reading: Reading,
     task: Task<'_>,
-    starts: &mut Starts,
+    counts: &mut ReplayCounts,
 ) -> Result<Status, Failure> {
-    let Some(bytes) = file_bytes(rt, name) else {
+    let Some(bytes) = file_bytes(rt, FileName::of(name)) else {
         return Ok(Status::Unread);
     };
     let log = open_log(name, bytes.as_slice(), reading)?;
     if let (Opened::Read(file), Task::Replay(asked)) = (&log, task) {
         if asked.is_one_of_many && file.is_replayed(reading.allow_left_over) {
-            *starts = starts.with(file.is_locality_stated(asked.locality));
+            *counts = counts.with(file.is_locality_stated(asked.locality));
         }
     }
     task_report(log, reading, task)?.print(rt)
@@ -160,8 +160,8 @@ fn compare_logs<R: Files + Input + Print + Eprint>(
     asked: Compared,
     reading: Reading,
 ) -> Result<Status, Failure> {
-    let old_bytes = file_bytes(rt, old);
-    let new_bytes = file_bytes(rt, new);
+    let old_bytes = file_bytes(rt, FileName::of(old));
+    let new_bytes = file_bytes(rt, FileName::of(new));
     let (Some(old_bytes), Some(new_bytes)) = (old_bytes, new_bytes) else {
         return Ok(Status::Unread);
     };
@@ -178,13 +178,15 @@ fn verify_log<R: Files + Input + Print + Eprint>(
     reading: Reading,
 ) -> Result<Status, Failure> {
     let selections = selections_of(rt, asked.pcrs)?;
-    let bytes = file_bytes(rt, asked.log);
-    let held = held_pcrs(rt, registers);
+    let bytes = file_bytes(rt, FileName::of(asked.log));
+    let held = held_pcrs(rt, FileName::of(registers));
     let (Some(bytes), Some(held)) = (bytes, held) else {
         return print_unjudged(rt, asked, NotJudged::Unread, Status::Unread);
     };
     if !is_coverage_stated(false, selections.as_slice()) {
-        tell_chosen(rt, registers);
+        let name = ShownName(registers);
+        let _ = fallible_eprintln!(rt, "uefi_audit: {name} chooses which banks are compared, unless --pcrs names them, as in sha256:0-7"
+        );
     }
     let stated = StatedPcrs {
         log: asked.log,
@@ -198,24 +200,20 @@ fn verify_log<R: Files + Input + Print + Eprint>(
     verify_report(log, reading, &stated)?.print(rt)
 }
 
-/// Tells on standard error that the file with the PCRs chooses the banks: `--pcrs` doesn't name them.
-fn tell_chosen<R: Eprint>(rt: &R, registers: &str) {
-    let name = ShownName(registers);
-    let _ = fallible_eprintln!(rt, "uefi_audit: {name} chooses which banks are compared, unless --pcrs names them, as in sha256:0-7"
-    );
-}
-
 /// Prints in JSON why a log isn't judged, and returns this status.
-fn print_unjudged<R: Print>(
+fn print_unjudged<R: Print + Eprint>(
     rt: &R,
     asked: &Verification<'_>,
     why: NotJudged,
     status: Status,
 ) -> Result<Status, Failure> {
-    let name = asked.log.strip_suffix('\0').unwrap_or(asked.log);
-    let text = unjudged_text(name, asked.format, why)?;
-    print_text(&mut io::writer(rt), text.as_str())?;
-    Ok(status)
+    let name = FileName::of(asked.log).as_str();
+    let report = Report {
+        text: unjudged_text(name, asked.format, why)?,
+        messages: String::new(),
+        status,
+    };
+    report.print(rt)
 }
 
 /// What `verify --quote` is given: the bytes of its files, and what its options state.
@@ -241,8 +239,8 @@ fn quote_input<R: Files + Input + Eprint>(
 ) -> Result<Option<QuoteInput>, Failure> {
     let selections = required_pcrs(rt, asked.pcrs, quote.any_pcrs)?;
     let nonce = nonce_of(rt, quote.nonce)?;
-    let log = file_bytes(rt, asked.log);
-    let message = file_bytes(rt, quote.file);
+    let log = file_bytes(rt, FileName::of(asked.log));
+    let message = file_bytes(rt, FileName::of(quote.file));
     let held = held_beside(rt, asked.registers);
     let (Some(log), Some(message), Some(held)) = (log, message, held) else {
         return Ok(None);
@@ -309,7 +307,7 @@ fn held_beside<R: Files + Input + Eprint>(
     registers: Option<&str>,
 ) -> Option<Vec<HeldPcr>> {
     match registers {
-        Some(path) => held_pcrs(rt, path),
+        Some(word) => held_pcrs(rt, FileName::of(word)),
         None => Some(Vec::new()),
     }
 }
@@ -388,12 +386,4 @@ fn is_coverage_stated(any_pcrs: bool, selections: &[PcrSelection]) -> bool {
 /// Returns whether each selection names a bank.
 fn name_banks(selections: &[PcrSelection]) -> bool {
     selections.iter().all(|it| it.bank().is_some())
-}
-
-/// Writes a text to its end.
-pub(crate) fn print_text<W: Write>(out: &mut W, text: &str) -> Result<(), Failure> {
-    match out.write_all(text.as_bytes()) {
-        Ok(()) => Ok(()),
-        Err(cause) => Err(Failure::Output(cause)),
-    }
 }

@@ -117,7 +117,10 @@ fn difference_text(
     let mut text = String::new();
     match format {
         Format::Text => {
-            let (old_name, new_name) = (shown(logs.old_name)?, shown(logs.new_name)?);
+            let (old_name, new_name) = (
+                shown_name(logs.old_name)?,
+                shown_name(logs.new_name)?,
+            );
             let logs = ComparedLogs {
                 old_name: old_name.as_str(),
                 new_name: new_name.as_str(),
@@ -131,7 +134,7 @@ fn difference_text(
 }
 
 /// Returns a file's name as it is printed.
-fn shown(name: &str) -> Result<String, AllocError> {
+fn shown_name(name: &str) -> Result<String, AllocError> {
     let name = ShownName(name);
     fallible_format!("{name}")
 }

@@ -3,7 +3,8 @@
 use crate::host::rt::{Eprint, Input};
 use crate::support::fallible::*;
 
-use crate::file_input::{MAX_READS, ReadError, STANDARD_INPUT, read_file};
+use crate::uefi_audit::file_name::FileName;
+use crate::file_input::{MAX_READS, STANDARD_INPUT, read_file};
 use uefi_formats::pcr::{Bank, PCR_COUNT};
 use crate::shown::ShownName;
 use crate::support::alloc::AllocError;
@@ -18,34 +19,43 @@ use crate::uefi_audits::verify::{Held, HeldError, HeldPcr, held_in_file, held_in
 /// standard error is told.
 pub(crate) fn file_bytes<R: Files + Input + Eprint>(
     rt: &R,
-    path: &str,
+    name: FileName<'_>,
 ) -> Option<Vec<u8>> {
-    if let Some(name) = path.strip_suffix('\0') {
-        let _ = fallible_eprintln!(rt, "uefi_audit: {name}: the name isn't UTF-8");
-        return None;
-    }
-    let file = if path == "-" { STANDARD_INPUT } else { path };
-    match read_file(rt, file, MAX_READS) {
-        Ok(bytes) => Some(bytes),
-        Err(error) => {
-            tell_unread(rt, path, &error);
+    bytes_at(rt, path_named(rt, name)?)
+}
+
+/// Returns the path that a name is; `None` if it isn't UTF-8, which standard error is told.
+fn path_named<'a, R: Eprint>(rt: &R, name: FileName<'a>) -> Option<&'a str> {
+    match name {
+        FileName::Text(path) => Some(path),
+        FileName::NotUtf8(shown) => {
+            let _ = fallible_eprintln!(rt, "uefi_audit: {shown}: the name isn't UTF-8");
             None
         }
     }
 }
 
-/// Tells on standard error why a file wasn't read. If that is closed, the exit status still tells.
-fn tell_unread<R: Eprint>(rt: &R, path: &str, error: &ReadError) {
-    let name = ShownName(path);
-    let _ = fallible_eprintln!(rt, "uefi_audit: {name}: {error}");
+/// Returns the bytes of the file at a path, as [`file_bytes`].
+fn bytes_at<R: Files + Input + Eprint>(rt: &R, path: &str) -> Option<Vec<u8>> {
+    let file = if path == "-" { STANDARD_INPUT } else { path };
+    match read_file(rt, file, MAX_READS) {
+        Ok(bytes) => Some(bytes),
+        Err(error) => {
+            let name = ShownName(path);
+            // If standard error is closed, the exit status still tells.
+            let _ = fallible_eprintln!(rt, "uefi_audit: {name}: {error}");
+            None
+        }
+    }
 }
 
 /// Returns the PCRs of a TPM in a file that `tpm2_pcrread` printed or as TPM 1.2 has it, or in a
 /// folder as Linux has it; `None` if there are none to be read, which standard error is told.
 pub(crate) fn held_pcrs<R: Files + Input + Eprint>(
     rt: &R,
-    path: &str,
+    name: FileName<'_>,
 ) -> Option<Vec<HeldPcr>> {
+    let path = path_named(rt, name)?;
     let held = match fs::metadata(rt, path) {
         Ok(found) if found.is_dir() => held_in_folder(rt, path)?,
         _ => held_in_listing(rt, path)?,
@@ -63,7 +73,7 @@ fn held_in_listing<R: Files + Input + Eprint>(
     rt: &R,
     path: &str,
 ) -> Option<Vec<HeldPcr>> {
-    let bytes = file_bytes(rt, path)?;
+    let bytes = bytes_at(rt, path)?;
     match held_in_text(bytes.as_slice()) {
         Ok(held) => {
             let Held { pcrs, unsupported } = held;
@@ -146,7 +156,7 @@ fn held_in_bank<R: Files + Input + Eprint>(
         Err(error) if error.kind() == ErrorKind::NotFound => return Some(None),
         _ => {}
     }
-    let bytes = file_bytes(rt, path.as_str())?;
+    let bytes = bytes_at(rt, path.as_str())?;
     match held_in_file(bank, bytes.as_slice()) {
         Ok(value) => Some(Some(HeldPcr { bank, pcr, value })),
         Err(error) => {

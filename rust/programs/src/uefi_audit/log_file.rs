@@ -4,13 +4,14 @@ use crate::uefi_audit::failure::Status;
 use crate::uefi_audit::report::Report;
 use crate::uefi_audit::request::Reading;
 use crate::audit_text::text::{push_header_fault, push_judgement, push_many_algorithms};
-use uefi_formats::pcr::{ReadLog, ReadLogError};
+use uefi_formats::pcr::ReadLog;
+use crate::shown::ShownName;
 use crate::support::alloc::AllocError;
 use crate::uefi_audits::header_fault::header_fault;
 use crate::uefi_audits::judgement::Judgement;
-use crate::uefi_audits::start::KnownStart;
+use crate::uefi_audits::known_start::KnownStart;
 use crate::uefi_audits::trailing::Trailing;
-use uefi_formats::proto::tcg::Log;
+use uefi_formats::proto::tcg::{LastEntry, Log, LogError};
 
 /// An event log that was read from a file: the name to print, and what was read.
 #[derive(Debug)]
@@ -19,6 +20,8 @@ pub(crate) struct LogFile<'a> {
     pub name: &'a str,
     /// The log.
     pub read: ReadLog<'a>,
+    /// Why it isn't whole, if it isn't.
+    pub fault: Option<LogError>,
 }
 
 impl LogFile<'_> {
@@ -52,24 +55,16 @@ pub(crate) fn open_log<'a>(
     bytes: &'a [u8],
     reading: Reading,
 ) -> Result<Opened<'a>, AllocError> {
-    let log = Log::new(bytes, reading.last_entry);
-    let most = reading.max_rows;
-    match ReadLog::with_most_rows(log, most as usize) {
-        Ok(read) => Ok(Opened::Read(LogFile { name, read })),
-        Err(ReadLogError::Memory) => Err(AllocError),
-        Err(ReadLogError::TooManyAlgorithms(rows)) => {
-            let report = many_report(name, rows, most)?;
-            Ok(Opened::Refused(report))
-        }
-        _ => unreachable!(),
+    let (last_entry, most) = (reading.last_entry, reading.max_rows);
+    let whole = Log::read_with(bytes, last_entry, most as usize);
+    if let Err(LogError::TooManyAlgorithms(rows)) = whole {
+        let mut messages = String::new();
+        push_many_algorithms(&mut messages, name, rows, most)?;
+        return Ok(Opened::Refused(Report::unjudged(messages)));
     }
-}
-
-/// Returns the report of a log whose header has more algorithms than are allowed.
-fn many_report(name: &str, rows: usize, most: u32) -> Result<Report, AllocError> {
-    let mut messages = String::new();
-    push_many_algorithms(&mut messages, name, rows, most)?;
-    Ok(Report::unjudged(messages))
+    let read = ReadLog::new(Log::new(bytes, last_entry))?;
+    let fault = whole.err();
+    Ok(Opened::Read(LogFile { name, read, fault }))
 }
 
 /// Returns whether a log can be judged, and the messages on that.
@@ -84,6 +79,7 @@ pub(crate) fn judge(
     let judgement = Judgement::of(&file.read, allow_left_over);
     let mut messages = String::new();
     push_header_fault(&mut messages, file.name, header_fault(&file.read))?;
+    push_last_entry(&mut messages, file)?;
     push_judgement(
         &mut messages,
         file.name,
@@ -91,6 +87,20 @@ pub(crate) fn judge(
         &Trailing::of(&file.read),
     )?;
     Ok((judgement, messages))
+}
+
+/// Appends the line of a log in which no event starts at the last entry that is asked for.
+fn push_last_entry(messages: &mut String, file: &LogFile<'_>) -> Result<(), AllocError> {
+    let last_entry = file.read.log().last_entry;
+    match (last_entry, file.fault) {
+        (LastEntry::At(offset), Some(LogError::LeftOver { .. })) => {
+            let name = ShownName(file.name);
+            fallible_writeln!(messages,
+                "{name}: no event starts at offset {offset} (--last-entry)"
+            )
+        }
+        _ => Ok(()),
+    }
 }
 
 /// Returns the status of a run over a log with this judgement, if nothing else is wrong.

@@ -6,9 +6,8 @@ use crate::support::fallible::*;
 use crate::uefi_audit::command_line::matches_of;
 use crate::uefi_audit::commands::perform;
 use crate::uefi_audit::failure::{Failure, Status, exit_code};
+use crate::uefi_audit::file_name::FileName;
 use crate::uefi_audit::request::request_of;
-use crate::shown::ShownBytes;
-use crate::support::alloc::AllocError;
 use crate::host::env::FillError;
 use std::process::ExitCode;
 use crate::host::rt::{Env, Files};
@@ -16,7 +15,7 @@ use crate::host::rt::{Env, Files};
 /// The longest argument that Linux passes, in bytes.
 const LONGEST_ARGUMENT: usize = 131_072;
 
-/// Returns the arguments, of which the first is the program's name.
+/// Returns the words of the arguments, of which the first is the program's name.
 fn read_arguments<R: Env>(rt: &R) -> Result<Vec<String>, Failure> {
     let mut words = Vec::new();
     let mut buffer = Vec::fallible_from_elem(0, LONGEST_ARGUMENT)?;
@@ -26,7 +25,7 @@ fn read_arguments<R: Env>(rt: &R) -> Result<Vec<String>, Failure> {
             Err(FillError::NotPresent) => break,
             Err(FillError::TooLong) => return Err(Failure::Memory),
         };
-        let word = word_of(&buffer.as_slice()[..length])?;
+        let word = FileName::word_of(&buffer.as_slice()[..length])?;
         if words.fallible_push(word).is_err() {
             return Err(Failure::Memory);
         }
@@ -34,24 +33,12 @@ fn read_arguments<R: Env>(rt: &R) -> Result<Vec<String>, Failure> {
     Ok(words)
 }
 
-/// Returns the word of an argument: its text; of one that isn't UTF-8, how it is shown and a NUL, which
-/// no argument has, so that [`file_bytes`](crate::uefi_audit::input::file_bytes) knows it.
-fn word_of(bytes: &[u8]) -> Result<String, AllocError> {
-    match core::str::from_utf8(bytes) {
-        Ok(text) => String::fallible_from_str(text),
-        Err(_) => {
-            let name = ShownBytes(bytes);
-            fallible_format!("{name}\0")
-        }
-    }
-}
-
 /// Reads the arguments, and does what they ask for.
 fn audit<R: Files + Env + Input + Print + Eprint>(rt: &R) -> Result<Status, Failure> {
     let arguments = read_arguments(rt)?;
     let matches = match matches_of(arguments.as_slice()) {
         Ok(matches) => matches,
-        Err(error) => return Err(told(rt, &error)),
+        Err(error) => return Err(print_error(rt, &error)),
     };
     let Some((name, of)) = matches.subcommand() else {
         return Err(Failure::Arguments);
@@ -64,7 +51,7 @@ fn audit<R: Files + Env + Input + Print + Eprint>(rt: &R) -> Result<Status, Fail
 }
 
 /// Prints what `clap` says of the arguments, and returns why the program ends.
-fn told<R: Print + Eprint>(rt: &R, error: &crate::clap::Error) -> Failure {
+fn print_error<R: Print + Eprint>(rt: &R, error: &crate::clap::Error) -> Failure {
     let failure = Failure::of(error);
     if matches!(failure, Failure::Memory) {
         return failure;

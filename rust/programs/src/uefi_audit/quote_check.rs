@@ -70,7 +70,7 @@ fn judged_report(
             Report::unjudged_as(messages, name, format, NotJudged::NothingMeasured)
         }
         Judgement::LeftOver => {
-            Report::unjudged_as(messages, name, format, NotJudged::TrailingBytes)
+            Report::unjudged_as(messages, name, format, NotJudged::LeftOver)
         }
     }
 }
@@ -81,23 +81,14 @@ fn accepted_report(
     file: &LogFile<'_>,
     check: &QuoteCheck<'_>,
 ) -> Result<Report, AllocError> {
-    let compared = compare_quote(file, check)?;
-    digest_report(messages, file, check, &compared)
-}
-
-/// Returns the verdict on the quote.
-fn compare_quote<'a>(
-    file: &LogFile<'_>,
-    check: &QuoteCheck<'a>,
-) -> Result<ComparedQuote<'a>, AllocError> {
-    let (entries, registers) = (file.read.entries(), &check.registers);
-    let locality = registers.locality;
-    ComparedQuote::new(
-        entries,
+    let registers = &check.registers;
+    let compared = ComparedQuote::new(
+        file.read.entries(),
         &check.received,
         registers.selections,
-        locality,
-    )
+        registers.locality,
+    )?;
+    digest_report(messages, file, check, &compared)
 }
 
 /// Returns what is printed of a verdict after these messages, unless the log leads to no digest.

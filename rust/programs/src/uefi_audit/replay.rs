@@ -13,8 +13,8 @@ use crate::shown::ShownName;
 use crate::support::alloc::AllocError;
 use crate::uefi_audits::facts::LogFacts;
 use crate::uefi_audits::ignored::IgnoredEvent;
+use crate::uefi_audits::known_start::KnownStart;
 use crate::uefi_audits::log_replay::LogReplay;
-use crate::uefi_audits::start::KnownStart;
 
 /// What `replay` asks for.
 #[derive(Clone, Copy, Debug)]
@@ -42,9 +42,9 @@ pub(crate) fn replay_report(
     let (judgement, messages) = judge(file, reading.allow_left_over)?;
     let facts = LogFacts::of(&file.read, asked.locality)?;
     if !judgement.is_read() {
-        return refused(messages, file.name, &facts, asked);
+        return refused_report(messages, file.name, &facts, asked);
     }
-    let report = replayed(messages, file, &facts, asked)?;
+    let report = replayed_report(messages, file, &facts, asked)?;
     Ok(Report {
         text: report.text,
         messages: report.messages,
@@ -54,14 +54,17 @@ pub(crate) fn replay_report(
 
 /// Returns what is printed after these messages of a log with trailing bytes that aren't allowed: as JSON
 /// an object without PCRs.
-fn refused(
+fn refused_report(
     messages: String,
     name: &str,
     facts: &LogFacts,
     asked: Asked,
 ) -> Result<Report, AllocError> {
     let mut text = String::new();
-    push_refused(&mut text, name, facts, asked.format)?;
+    match asked.format {
+        Format::Text => {}
+        Format::Json => push_replay_json(&mut text, name, facts, None)?,
+    }
     Ok(Report {
         text,
         messages,
@@ -69,21 +72,8 @@ fn refused(
     })
 }
 
-/// Appends the object of a log that isn't replayed, if JSON is asked for.
-fn push_refused(
-    text: &mut String,
-    name: &str,
-    facts: &LogFacts,
-    format: Format,
-) -> Result<(), AllocError> {
-    match format {
-        Format::Text => Ok(()),
-        Format::Json => push_replay_json(text, name, facts, None),
-    }
-}
-
 /// Returns what is printed after these messages of the PCRs that a log leads to.
-fn replayed(
+fn replayed_report(
     messages: String,
     file: &LogFile<'_>,
     facts: &LogFacts,

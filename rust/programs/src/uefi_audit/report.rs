@@ -3,12 +3,11 @@
 use crate::host::rt::{Eprint, Print};
 use crate::support::fallible::*;
 
-use crate::uefi_audit::commands::print_text;
 use crate::uefi_audit::failure::{Failure, Status};
 use crate::uefi_audit::request::Format;
 use crate::audit_text::json::{NotJudged, push_unjudged_json};
 use crate::support::alloc::AllocError;
-use crate::host::io;
+use crate::host::io::{self, Write};
 
 /// What a command says of a log, or of two, and what follows from it.
 #[derive(Debug)]
@@ -62,7 +61,7 @@ impl Report {
         format: Format,
     ) -> Result<Report, AllocError> {
         Ok(Report {
-            text: unjudged_text(name, format, NotJudged::ManyAlgorithms)?,
+            text: unjudged_text(name, format, NotJudged::TooManyAlgorithms)?,
             messages: self.messages,
             status: self.status,
         })
@@ -87,7 +86,7 @@ impl Report {
     /// Tells standard error, prints the text, and returns the status. If standard error is closed,
     /// the status still tells.
     pub(crate) fn print<R: Print + Eprint>(&self, rt: &R) -> Result<Status, Failure> {
-        tell(rt, self.messages.as_str());
+        print_messages(rt, self.messages.as_str());
         print_text(&mut io::writer(rt), self.text.as_str())?;
         Ok(self.status)
     }
@@ -111,9 +110,17 @@ pub(crate) fn unjudged_text(
     Ok(text)
 }
 
-/// Writes text to standard error.
-fn tell<R: Eprint>(rt: &R, text: &str) {
-    if !text.is_empty() {
-        let _ = fallible_eprint!(rt, "{text}");
+/// Writes messages to standard error, if there are any.
+fn print_messages<R: Eprint>(rt: &R, messages: &str) {
+    if !messages.is_empty() {
+        let _ = fallible_eprint!(rt, "{messages}");
+    }
+}
+
+/// Writes a text to its end.
+fn print_text<W: Write>(out: &mut W, text: &str) -> Result<(), Failure> {
+    match out.write_all(text.as_bytes()) {
+        Ok(()) => Ok(()),
+        Err(cause) => Err(Failure::Output(cause)),
     }
 }

@@ -218,12 +218,7 @@ pub(crate) fn reading_of(matches: &ArgMatches<'_>) -> Option<Reading> {
 
 /// Returns how many rows a command's matches allow a table.
 fn max_rows_of(matches: &ArgMatches<'_>) -> u32 {
-    stated_max_rows(matches).unwrap_or(MAX_ROWS)
-}
-
-/// Returns the number that a command's matches state for `--max-rows`, if they state one.
-fn stated_max_rows(matches: &ArgMatches<'_>) -> Option<u32> {
-    matches.get_one::<u32>("max-rows")
+    matches.get_one::<u32>("max-rows").unwrap_or(MAX_ROWS)
 }
 
 /// Returns the last entry that a command's matches ask for; `None` if `--last-entry` has a word

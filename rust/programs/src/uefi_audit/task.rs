@@ -2,7 +2,7 @@
 
 use crate::uefi_audit::checking::check_report;
 use crate::uefi_audit::events::events_report;
-use crate::uefi_audit::log_file::{LogFile, Opened};
+use crate::uefi_audit::log_file::Opened;
 use crate::uefi_audit::replay::{Asked, replay_report};
 use crate::uefi_audit::report::Report;
 use crate::uefi_audit::request::{Format, Reading};
@@ -30,21 +30,13 @@ pub(crate) fn task_report(
     reading: Reading,
     task: Task<'_>,
 ) -> Result<Report, AllocError> {
-    match log {
-        Opened::Refused(report) => Ok(report),
-        Opened::Read(file) => read_report(&file, reading, task),
-    }
-}
-
-/// Returns what a task prints of a log that was read.
-fn read_report(
-    file: &LogFile<'_>,
-    reading: Reading,
-    task: Task<'_>,
-) -> Result<Report, AllocError> {
+    let file = match log {
+        Opened::Read(file) => file,
+        Opened::Refused(report) => return Ok(report),
+    };
     match task {
-        Task::Events(format) => events_report(file, reading, format),
-        Task::Replay(asked) => replay_report(file, reading, asked),
-        Task::Check(covered, format) => check_report(file, reading, covered, format),
+        Task::Events(format) => events_report(&file, reading, format),
+        Task::Replay(asked) => replay_report(&file, reading, asked),
+        Task::Check(covered, format) => check_report(&file, reading, covered, format),
     }
 }

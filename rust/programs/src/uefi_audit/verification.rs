@@ -76,7 +76,7 @@ fn judged_report(
             Report::unjudged_as(messages, name, format, NotJudged::NothingMeasured)
         }
         Judgement::LeftOver => {
-            Report::unjudged_as(messages, name, format, NotJudged::TrailingBytes)
+            Report::unjudged_as(messages, name, format, NotJudged::LeftOver)
         }
     }
 }

@@ -3,7 +3,7 @@
 //! What is known of a log before it is replayed.
 
 use crate::uefi_audits::algorithms::algorithms_in;
-use crate::uefi_audits::start::KnownStart;
+use crate::uefi_audits::known_start::KnownStart;
 use crate::uefi_audits::trailing::Trailing;
 use uefi_formats::pcr::ReadLog;
 use crate::support::alloc::AllocError;

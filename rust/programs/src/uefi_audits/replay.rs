@@ -54,6 +54,24 @@ pub fn replay_banks(
     Ok(found)
 }
 
+/// Returns what the PCRs of banks hold in a TPM that was started so, by what they hold in one that was
+/// started otherwise: PCR 0 alone is replayed.
+///
+/// # Errors
+///
+/// [`AllocError`] if an allocation fails.
+pub(crate) fn restart_banks(
+    entries: &[LogEntry<'_>],
+    replays: &[BankPcrs],
+    start: &Start,
+) -> Result<Vec<BankPcrs>, AllocError> {
+    let mut found = Vec::new();
+    for replay in replays {
+        found.fallible_push(replay.restarted(entries, start))?;
+    }
+    Ok(found)
+}
+
 /// Returns what these events leave in the PCRs of a bank.
 fn replay_bank(entries: &[LogEntry<'_>], bank: Bank, start: &Start) -> BankPcrs {
     BankPcrs {

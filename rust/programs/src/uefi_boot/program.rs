@@ -18,6 +18,9 @@ use crate::host::rt::{Env, Files};
 use crate::host::env;
 use crate::host::io;
 
+/// The line that `--version` prints.
+const VERSION_LINE: &str = "uefi_boot 0.1.0\n";
+
 /// Returns the words after the program's name. If one isn't UTF-8, they ask for nothing.
 fn read_words<R: Env>(rt: &R) -> Result<Vec<String>, Failure> {
     match env::args(rt) {
@@ -63,19 +66,34 @@ fn listing<R: Files + Input + Clone>(
     Ok((text, outcome))
 }
 
-/// Judges the words, and prints what they ask for.
+/// Returns whether the words ask for the version.
+fn asks_version(words: &[String]) -> bool {
+    matches!(words, [word] if word.as_str() == "--version")
+}
+
+/// Prints a text.
+fn print_text<R: Print>(rt: &R, text: &str) -> Result<(), Failure> {
+    match io::writer(rt).write_all(text.as_bytes()) {
+        Ok(()) => Ok(()),
+        Err(error) => Err(Failure::Output(error)),
+    }
+}
+
+/// Judges the words, and prints what they ask for, or the version.
 fn print_listing<R: Files + Env + Input + Print + Clone>(
     rt: &R,
 ) -> Result<Outcome, Failure> {
     let words = read_words(rt)?;
+    if asks_version(words.as_slice()) {
+        print_text(rt, VERSION_LINE)?;
+        return Ok(Outcome::Listed);
+    }
     let Some(request) = Request::from_words(words.as_slice()) else {
         return Err(Failure::OtherWords);
     };
     let (text, outcome) = listing(rt, &request)?;
-    match io::writer(rt).write_all(text.as_bytes()) {
-        Ok(()) => Ok(outcome),
-        Err(error) => Err(Failure::Output(error)),
-    }
+    print_text(rt, text.as_str())?;
+    Ok(outcome)
 }
 
 /// Runs the program, says on standard error why it failed, and returns its exit status.

@@ -4,6 +4,7 @@ use crate::host::rt::{Eprint, Input, Print};
 use crate::support::fallible::*;
 
 use crate::file_input::{MAX_READS, ReadError, read_file};
+use crate::host::io::Write;
 use std::process::ExitCode;
 use crate::host::rt::{Env, Files};
 use crate::host::env;
@@ -11,6 +12,9 @@ use crate::host::io;
 use crate::uefi_listing::command::{command_and_file, is_moved};
 use crate::uefi_listing::listing::Outcome;
 use crate::uefi_listing::run::{RunError, run};
+
+/// The line that `--version` prints.
+const VERSION_LINE: &str = "uefi_list 0.1.0\n";
 
 /// Why the program didn't write the whole listing.
 #[derive(Clone, Copy, Debug)]
@@ -85,9 +89,25 @@ fn other_words(words: &[String]) -> Failure {
     }
 }
 
-/// Judges the words, reads the file, and prints its listing.
+/// Returns whether the words ask for the version.
+fn asks_version(words: &[String]) -> bool {
+    matches!(words, [word] if word.as_str() == "--version")
+}
+
+/// Prints the version.
+fn print_version<R: Print>(rt: &R) -> Result<Outcome, Failure> {
+    match io::writer(rt).write_all(VERSION_LINE.as_bytes()) {
+        Ok(()) => Ok(Outcome::Listed),
+        Err(_) => Err(Failure::Output),
+    }
+}
+
+/// Judges the words, reads the file, and prints its listing; or prints the version, if they ask for it.
 fn print_listing<R: Files + Env + Input + Print>(rt: &R) -> Result<Outcome, Failure> {
     let words = read_words(rt)?;
+    if asks_version(words.as_slice()) {
+        return print_version(rt);
+    }
     let Some((command, file)) = command_and_file(words.as_slice()) else {
         return Err(other_words(words.as_slice()));
     };

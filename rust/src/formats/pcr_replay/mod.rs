@@ -24,7 +24,6 @@ pub use self::quote::{NoQuoteDigest, is_quoted, quote_digest};
 pub(crate) use self::quote::quote_digest_in;
 #[cfg(feature = "alloc")]
 pub use self::read_log::ReadLog;
-pub use self::read_log::ReadLogError;
 pub use self::replaying::{has_measured, is_active, replay, replay_from};
 // For the functions for C, or for tests: they compile these files too.
 #[allow(unused_imports)]

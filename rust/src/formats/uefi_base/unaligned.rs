@@ -37,7 +37,7 @@ use core::iter::{ExactSizeIterator, FusedIterator};
 /// ```
 #[derive(Clone, Copy)]
 pub struct UnalignedSlice<'a> {
-    bytes: &'a [u8],
+    pub(crate) bytes: &'a [u8],
 }
 
 impl<'a> UnalignedSlice<'a> {

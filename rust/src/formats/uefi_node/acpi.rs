@@ -11,6 +11,5 @@ pub use self::nvdimm::Nvdimm;
 mod adr;
 mod adr_list;
 mod device;
-mod eisa;
 mod expanded;
 mod nvdimm;

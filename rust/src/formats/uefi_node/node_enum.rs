@@ -6,6 +6,7 @@ use crate::formats::uefi_node::{acpi, bios_boot_spec, end, hardware, media, mess
 use crate::formats::uefi_path::DevicePathNode;
 
 /// A node of a path, as the value of its type (UEFI 2.10, 10.3).
+#[non_exhaustive]
 #[derive(Clone, Copy, PartialEq, Eq, Debug)]
 pub enum DevicePathNodeEnum<'a> {
     /// The end of an instance: another one follows.

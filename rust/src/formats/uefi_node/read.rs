@@ -3,6 +3,41 @@
 use crate::formats::uefi_node::error::NodeConversionError;
 use crate::formats::uefi_path::{DevicePathNode, DeviceSubType, DeviceType};
 
+/// A type of nodes, and how long its data are.
+#[derive(Clone, Copy, Debug)]
+pub(crate) struct NodeKind {
+    /// The type and the subtype.
+    pub(crate) full_type: (DeviceType, DeviceSubType),
+    /// How many bytes the fields have.
+    pub(crate) size: usize,
+    /// What follows them.
+    pub(crate) rest: RestKind,
+}
+
+impl NodeKind {
+    /// Returns whether a node has the type and the subtype.
+    #[inline]
+    fn is_of(&self, node: &DevicePathNode<'_>) -> bool {
+        node.full_type() == self.full_type
+    }
+
+    /// Returns whether data of this length are fields and such a rest.
+    #[inline]
+    fn has_length(&self, length: usize) -> bool {
+        if length < self.size {
+            return false;
+        }
+        let after = length - self.size;
+        match self.rest {
+            RestKind::Nothing => after == 0,
+            RestKind::Bytes => true,
+            RestKind::Units => after % 2 == 0,
+            RestKind::Numbers => after >= 4 && after % 4 == 0,
+            RestKind::Addresses => after % 16 == 0,
+        }
+    }
+}
+
 /// What follows the fields of a node.
 #[derive(Clone, Copy, Debug)]
 pub(crate) enum RestKind {
@@ -28,43 +63,18 @@ pub(crate) trait NodeValue<'a>: Sized {
 #[inline]
 pub(crate) fn read_node<'a, T: NodeValue<'a>>(
     node: &DevicePathNode<'a>,
-    device_type: DeviceType,
-    sub_type: DeviceSubType,
-    size: usize,
-    rest: RestKind,
+    kind: NodeKind,
 ) -> Result<T, NodeConversionError> {
     let data = node.data();
-    if !has_type(node, device_type, sub_type) {
+    if !kind.is_of(node) {
         return Err(NodeConversionError::DifferentType);
     }
-    if !has_length(data.len(), size, rest) {
+    if !kind.has_length(data.len()) {
         return Err(NodeConversionError::Length);
     }
     match T::from_data(data) {
         Some(value) => Ok(value),
         None => Err(NodeConversionError::Form),
-    }
-}
-
-/// Returns whether the node has this type and subtype.
-#[inline]
-fn has_type(node: &DevicePathNode<'_>, device_type: DeviceType, sub_type: DeviceSubType) -> bool {
-    node.full_type() == (device_type, sub_type)
-}
-
-/// Returns whether data of this length are fields of this size and such a rest.
-#[inline]
-fn has_length(length: usize, size: usize, rest: RestKind) -> bool {
-    if length < size {
-        return false;
-    }
-    let after = length - size;
-    match rest {
-        RestKind::Nothing => after == 0,
-        RestKind::Bytes => true,
-        RestKind::Units => after % 2 == 0,
-        RestKind::Numbers => after >= 4 && after % 4 == 0,
-        RestKind::Addresses => after % 16 == 0,
     }
 }
 

@@ -1,10 +1,10 @@
 // @generated from proved source. It is not edited.
 
-use crate::formats::uefi_node::read::NodeValue;
+use crate::formats::uefi_node::read::{NodeKind, NodeValue};
 use crate::formats::uefi_base::UnalignedSlice;
 use crate::formats::uefi_base::buffer::put;
 use crate::formats::uefi_path::build::BuildError;
-use crate::formats::uefi_path::{DeviceSubType, DeviceType};
+use crate::formats::uefi_path::{DevicePathHeader, DeviceSubType, DeviceType};
 
 // The length of a header, and the greatest length of a node.
 pub(crate) const HEADER_LENGTH: usize = 4;
@@ -90,13 +90,13 @@ pub(crate) fn joined<const N: usize>(parts: &[&[u8]]) -> [u8; N] {
 #[inline]
 pub(crate) fn write_node<'a, T: NodeValue<'a>>(
     buffer: &mut [u8],
+    kind: NodeKind,
     value: &T,
-    full_type: (DeviceType, DeviceSubType),
     fields: &[u8],
     tail: Tail<'_>,
 ) -> Result<usize, BuildError> {
     let _value = value;
-    write_parts(buffer, full_type, fields, &tail)
+    write_parts(buffer, kind.full_type, fields, &tail)
 }
 
 /// Writes the node with this type and subtype, whose data are the fields and then the tail.
@@ -118,22 +118,15 @@ fn write_parts(
         return Err(BuildError::BufferTooSmall(length));
     }
     let (device_type, sub_type) = full_type;
-    put_node(
-        buffer,
-        [device_type.0, sub_type.0],
-        (length as u16).to_le_bytes(),
-        fields,
-        tail,
-    );
+    let header = DevicePathHeader::new(device_type, sub_type, length as u16);
+    put_node(buffer, header.to_bytes(), fields, tail);
     Ok(length)
 }
 
-/// Puts a node at the start of a buffer that has room for it: its type and subtype, its length, its
-/// fields and its tail.
+/// Puts a node at the start of a buffer that has room for it: its header, its fields and its tail.
 #[inline]
-fn put_node(buffer: &mut [u8], full_type: [u8; 2], size: [u8; 2], fields: &[u8], tail: &Tail<'_>) {
-    put(buffer, 0, &full_type);
-    put(buffer, 2, &size);
+fn put_node(buffer: &mut [u8], header: [u8; 4], fields: &[u8], tail: &Tail<'_>) {
+    put(buffer, 0, &header);
     put(buffer, HEADER_LENGTH, fields);
     tail.put(buffer, HEADER_LENGTH + fields.len());
 }

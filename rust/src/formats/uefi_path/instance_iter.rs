@@ -1,7 +1,7 @@
 // @generated from proved source. It is not edited.
 
 use crate::formats::uefi_path::instance::DevicePathInstance;
-use crate::formats::uefi_path::walk::{StopCondition, first_nodes};
+use crate::formats::uefi_path::walk::{StopCondition, split_nodes};
 use core::iter::FusedIterator;
 
 /// An iterator over the instances of a path, in order.
@@ -34,10 +34,7 @@ impl<'a> Iterator for DevicePathInstanceIterator<'a> {
 
     #[inline]
     fn next(&mut self) -> Option<DevicePathInstance<'a>> {
-        if self.rest.is_empty() {
-            return None;
-        }
-        let (instance, after) = first_nodes(self.rest, StopCondition::AnyEndNode);
+        let (instance, after) = split_nodes(self.rest, StopCondition::AnyEndNode).ok()?;
         *self = DevicePathInstanceIterator::new(after);
         Some(DevicePathInstance::new_unchecked(instance))
     }

@@ -223,8 +223,8 @@ fn split_description(bytes: &[u8]) -> Option<(UnalignedSlice<'_>, &[u8])> {
     while let Some((unit, after)) = split_u16(rest) {
         rest = after;
         if unit == 0 {
-            let (description, _) = bytes.split_at(bytes.len() - rest.len());
-            return Some((UnalignedSlice::new(description), rest));
+            let (description, _) = bytes.split_at_checked(bytes.len() - rest.len())?;
+            return Some((UnalignedSlice::try_new(description)?, rest));
         }
     }
     None

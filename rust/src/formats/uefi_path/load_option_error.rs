@@ -5,6 +5,7 @@ use core::error::Error;
 use core::fmt;
 
 /// The error for bytes that are no load option.
+#[non_exhaustive]
 #[derive(Clone, Copy, PartialEq, Eq, Debug)]
 pub enum LoadOptionError {
     /// There are fewer than six bytes: the attributes or the length of the file path list are cut.

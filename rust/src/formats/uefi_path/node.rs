@@ -4,7 +4,6 @@ use crate::formats::uefi_path::device_type::{DeviceSubType, DeviceType};
 use crate::formats::uefi_path::error::ByteConversionError;
 use crate::formats::uefi_path::header::{DEVICE_TYPE_OFFSET, HEADER_LENGTH, LENGTH_OFFSET, SUB_TYPE_OFFSET};
 use crate::formats::uefi_path::walk::split_node;
-use core::fmt;
 use crate::formats::uefi_base::little_endian::u16_at;
 
 /// One node of a device path (UEFI 2.10, 10.3.1): a type, a subtype and data.
@@ -107,11 +106,3 @@ impl<'a> PartialEq for DevicePathNode<'a> {
 }
 
 impl<'a> Eq for DevicePathNode<'a> {}
-
-/// Writes `<device path node: N bytes>`, where N is the length of the data in decimal.
-impl<'a> fmt::Display for DevicePathNode<'a> {
-    fn fmt(&self, f: &mut fmt::Formatter<'_>) -> fmt::Result {
-        let length = self.data().len();
-        write!(f, "<device path node: {length} bytes>")
-    }
-}

@@ -1,7 +1,7 @@
 // @generated from proved source. It is not edited.
 
 use crate::formats::uefi_path::node::DevicePathNode;
-use crate::formats::uefi_path::walk::{StopCondition, first_node};
+use crate::formats::uefi_path::walk::{StopCondition, split_node};
 use core::iter::FusedIterator;
 
 /// An iterator over the nodes of a path or of an instance, in order, without the last one.
@@ -36,7 +36,7 @@ impl<'a> Iterator for DevicePathNodeIterator<'a> {
 
     #[inline]
     fn next(&mut self) -> Option<DevicePathNode<'a>> {
-        let (node, after) = first_node(self.rest);
+        let (node, after) = split_node(self.rest).ok()?;
         if self.stop.stops_at(&node) {
             return None;
         }

@@ -14,7 +14,6 @@ use crate::formats::uefi_path::node_iter::DevicePathNodeIterator;
 use crate::formats::uefi_path::walk::{StopCondition, end_node, nodes_before_end, split_nodes};
 #[cfg(feature = "alloc")]
 use crate::support::alloc::AllocError;
-use core::fmt;
 
 /// A device path (UEFI 2.10, 10.2): nodes of which only the last is an end-entire node.
 ///
@@ -126,11 +125,3 @@ impl<'a> PartialEq for DevicePath<'a> {
 }
 
 impl<'a> Eq for DevicePath<'a> {}
-
-/// Writes `<device path: N bytes>`, where N is the length of the whole path in decimal.
-impl<'a> fmt::Display for DevicePath<'a> {
-    fn fmt(&self, f: &mut fmt::Formatter<'_>) -> fmt::Result {
-        let length = self.bytes.len();
-        write!(f, "<device path: {length} bytes>")
-    }
-}

@@ -2,7 +2,7 @@
 
 use crate::formats::uefi_path::device_type::DeviceType;
 use crate::formats::uefi_path::error::ByteConversionError;
-use crate::formats::uefi_path::header::{DevicePathHeader, HEADER_LENGTH, LENGTH_OFFSET};
+use crate::formats::uefi_path::header::{HEADER_LENGTH, LENGTH_OFFSET};
 use crate::formats::uefi_path::node::DevicePathNode;
 use crate::formats::uefi_base::little_endian::u16_at;
 
@@ -30,8 +30,10 @@ impl StopCondition {
 /// prefix of the bytes is a node.
 #[inline]
 pub(crate) fn split_node(bytes: &[u8]) -> Result<(DevicePathNode<'_>, &[u8]), ByteConversionError> {
-    let header = DevicePathHeader::try_from(bytes)?;
-    let length = usize::from(header.length());
+    if bytes.len() < HEADER_LENGTH {
+        return Err(ByteConversionError::InvalidLength);
+    }
+    let length = usize::from(u16_at(bytes, LENGTH_OFFSET));
     if length < HEADER_LENGTH || bytes.len() < length {
         return Err(ByteConversionError::InvalidLength);
     }
@@ -59,20 +61,9 @@ pub(crate) fn split_nodes(
         let (node, after) = split_node(rest)?;
         rest = after;
         if stop.stops_at(&node) {
-            return Ok(bytes.split_at(bytes.len() - rest.len()));
-        }
-    }
-}
-
-/// Returns the same for bytes that are known to start with such nodes, without a test.
-#[inline]
-pub(crate) fn first_nodes(bytes: &[u8], stop: StopCondition) -> (&[u8], &[u8]) {
-    let mut rest = bytes;
-    loop {
-        let (node, after) = first_node(rest);
-        rest = after;
-        if stop.stops_at(&node) {
-            return bytes.split_at(bytes.len() - rest.len());
+            return bytes
+                .split_at_checked(bytes.len() - rest.len())
+                .ok_or(ByteConversionError::InvalidLength);
         }
     }
 }

@@ -14,7 +14,7 @@ fn units_of(slice: UnalignedSlice<'_>) -> Option<Vec<u16>> {
 /// Returns the count of characters of a text, whether it has none, its units, and its characters.
 /// They are the same displayed.
 fn shown(text: CStr16<'_>) -> Option<String> {
-    let characters = text.to_string().ok()?;
+    let characters = text.to_string().text().ok()?;
     let displayed = fallible_format!("{text}").ok()?;
     if displayed.as_str() != characters.as_str() {
         return fallible_format!("another text is displayed: {displayed}").ok();

@@ -12,16 +12,11 @@ mod messaging;
 mod names;
 mod nodes;
 mod parts;
-mod texts;
 
 #[test]
 fn each_row_is_as_wanted() -> Result<(), Fail> {
     answered(&[
         ("nodes.rows", include_str!("nodes.rows")),
         ("refused.rows", include_str!("refused.rows")),
-        ("texts.rows", include_str!("texts.rows")),
-        ("from_text.rows", include_str!("from_text.rows")),
-    ],
-        |call, input| answer(call, input),
-    )
+    ], |call, input| answer(call, input))
 }

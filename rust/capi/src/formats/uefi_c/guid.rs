@@ -1,6 +1,11 @@
 // @generated from proved source. It is not edited.
 
 use core::mem::MaybeUninit;
+use crate::bytes::Bytes;
+
+use crate::formats::uefi_c::status::{self, UefiStatus};
+use core::str::FromStr;
+use crate::formats::uefi_base::Guid;
 
 /// Writes the text of a GUID: five groups of lowercase hex digits, separated by dashes, of which the
 /// first three are the little-endian numbers of the GUID.
@@ -45,6 +50,21 @@ pub extern "C" fn uefi_guid_text(text: &mut MaybeUninit<[u8; 36]>, guid: &[u8; 1
         high(p),
         low(p),
     ]);
+}
+
+/// Reads a GUID from its text, which has hex digits of either case. Without one the GUID stays as it
+/// was.
+#[unsafe(no_mangle)]
+pub extern "C" fn uefi_guid_from_text(guid: &mut MaybeUninit<[u8; 16]>, text: Bytes<'_>) -> UefiStatus {
+    let text = text.as_slice();
+    let Ok(text) = core::str::from_utf8(text) else {
+        return status::NOT_TEXT;
+    };
+    let Ok(found) = Guid::from_str(text) else {
+        return status::NOT_TEXT;
+    };
+    guid.write(found.to_bytes());
+    status::OK
 }
 
 /// Returns the hex digit of a byte's higher half.

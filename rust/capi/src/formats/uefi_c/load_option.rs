@@ -5,7 +5,7 @@ use crate::bytes::Bytes;
 
 use crate::formats::uefi_c::info::name_bytes;
 use crate::formats::uefi_c::status::{self, UefiStatus};
-use crate::formats::uefi_path::{LoadOption, LoadOptionError};
+use crate::formats::uefi_path::{DevicePath, LoadOption, LoadOptionError};
 
 /// The offset of the description.
 const DESCRIPTION_OFFSET: usize = 6;
@@ -42,6 +42,27 @@ pub extern "C" fn uefi_load_option<'a>(bytes: Bytes<'a>, out: &mut MaybeUninit<U
         }
         Err(error) => status_of(&error),
     }
+}
+
+/// Finds the path at the offset of a file path list, and moves the offset to its end. Without one it
+/// returns why: the list ends there, or no path begins there.
+#[unsafe(no_mangle)]
+pub extern "C" fn uefi_load_option_next_path<'a>(
+    file_path_list: Bytes<'a>,
+    offset: &mut usize,
+    path: &mut MaybeUninit<Bytes<'a>>,
+) -> UefiStatus {
+    let file_path_list = file_path_list.as_slice();
+    if *offset >= file_path_list.len() {
+        return status::END;
+    }
+    let (_, rest) = file_path_list.split_at(*offset);
+    let Ok(found) = DevicePath::try_from(rest) else {
+        return status::NO_PATH;
+    };
+    path.write(Bytes::new(found.as_bytes()));
+    *offset += found.as_bytes().len();
+    status::OK
 }
 
 /// Returns the parts of the load option that the bytes are.

@@ -1,8 +1,9 @@
 // @generated from proved source. It is not edited.
 
+use core::mem::MaybeUninit;
 use crate::bytes::Bytes;
 
-use crate::formats::uefi_c::replay::last_entry_of;
+use crate::formats::uefi_c::last_entry::last_entry_of;
 use crate::formats::uefi_c::status::{self, UefiStatus};
 use crate::formats::uefi_tcg::{Log, LogError};
 
@@ -12,14 +13,14 @@ use crate::formats::uefi_tcg::{Log, LogError};
 /// If bytes are left over, an event is missing, cut or broken, and the offset is set to the end of
 /// the events before it.
 #[unsafe(no_mangle)]
-pub extern "C" fn uefi_log_read(log: Bytes<'_>, last_entry: usize, offset: &mut usize) -> UefiStatus {
+pub extern "C" fn uefi_log_read(log: Bytes<'_>, last_entry: usize, offset: &mut MaybeUninit<usize>) -> UefiStatus {
     let log = log.as_slice();
     match Log::read(log, last_entry_of(log, last_entry)) {
         Ok(_log) => status::OK,
         Err(LogError::TooManyAlgorithms(_)) => status::TOO_MANY_ALGORITHMS,
         Err(LogError::Empty) => status::NO_EVENT,
         Err(LogError::LeftOver { offset: end }) => {
-            *offset = end;
+            offset.write(end);
             status::LEFT_OVER
         }
     }

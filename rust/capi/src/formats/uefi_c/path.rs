@@ -31,6 +31,36 @@ pub extern "C" fn uefi_path<'a>(bytes: Bytes<'a>, path: &mut MaybeUninit<Bytes<'
     status::OK
 }
 
+/// Finds where bytes stop being a path: sets the offset to that of the first node that can't be read,
+/// and returns why. If they begin with a path it returns success, and the offset is the path's end.
+#[unsafe(no_mangle)]
+pub extern "C" fn uefi_path_fault(path: Bytes<'_>, offset: &mut MaybeUninit<usize>) -> UefiStatus {
+    let path = path.as_slice();
+    let mut rest = path;
+    loop {
+        let Some((node, after)) = split_node(rest) else {
+            offset.write(path.len() - rest.len());
+            return node_fault(rest);
+        };
+        rest = after;
+        if node.is_end_entire() {
+            offset.write(path.len() - rest.len());
+            return status::OK;
+        }
+    }
+}
+
+/// Returns whether both begin with the same path.
+#[unsafe(no_mangle)]
+pub extern "C" fn uefi_path_equal(path: Bytes<'_>, other: Bytes<'_>) -> bool {
+    let path = path.as_slice();
+    let other = other.as_slice();
+    match (DevicePath::try_from(path), DevicePath::try_from(other)) {
+        (Ok(path), Ok(other)) => path == other,
+        _ => false,
+    }
+}
+
 /// Reads the node at the offset, unless it ends the walk, and moves the offset to its end.
 ///
 /// An end-entire node ends the walk, and a node of type END after which the bytes end. Without a node

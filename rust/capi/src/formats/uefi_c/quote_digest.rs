@@ -3,8 +3,9 @@
 use core::mem::MaybeUninit;
 use crate::bytes::{Bytes, workspace_in};
 
+use crate::formats::uefi_c::last_entry::log_of;
 use crate::formats::uefi_c::quote::status_of;
-use crate::formats::uefi_c::replay::{ROOM, log_of, start_of, status_of as fault_status};
+use crate::formats::uefi_c::replay::{ROOM, start_of, status_of as fault_status};
 use crate::formats::uefi_c::status::{self, UefiStatus};
 use crate::formats::uefi_c::workspace::{BANK_COUNT, UefiWorkspace};
 use crate::formats::pcr_replay::{

@@ -3,16 +3,14 @@
 use core::mem::MaybeUninit;
 use crate::bytes::{Bytes, workspace_in};
 
+use crate::formats::uefi_c::last_entry::log_of;
 use crate::formats::uefi_c::status::{self, UefiStatus};
 use crate::formats::uefi_c::workspace::{UefiBank, UefiWorkspace};
 use crate::formats::pcr_replay::{
     Bank, BankStore, Fault, PCR_COUNT, PcrValue, Start, Undetermined, is_active, replay_into,
     startup_locality,
 };
-use crate::formats::uefi_tcg::{AlgorithmId, LastEntry, Log, PcrIndex};
-
-/// The last entry that says that a log is empty.
-const EMPTY_LOG: usize = 1;
+use crate::formats::uefi_tcg::{AlgorithmId, Log, PcrIndex};
 
 /// The most bytes that a PCR has.
 pub(crate) const ROOM: usize = 64;
@@ -111,26 +109,8 @@ pub extern "C" fn uefi_bank_is_active(log: Bytes<'_>, last_entry: usize, algorit
 /// Replays a log for a bank, in a TPM that was started at this locality if it is below 256, else as
 /// the log says.
 #[inline]
-fn replay_at(held: &mut UefiBank, log: &Log<'_>, bank: Bank, locality: u32) {
+pub(crate) fn replay_at(held: &mut UefiBank, log: &Log<'_>, bank: Bank, locality: u32) {
     replay_into(held, log, bank, &start_of(log, locality));
-}
-
-/// Returns the log of these bytes with this last entry.
-#[inline]
-pub(crate) fn log_of(bytes: &[u8], last_entry: usize) -> Log<'_> {
-    Log::new(bytes, last_entry_of(bytes, last_entry))
-}
-
-/// Returns the last entry that a number stands for in a log of these bytes.
-#[inline]
-pub(crate) fn last_entry_of(bytes: &[u8], last_entry: usize) -> LastEntry {
-    if last_entry == EMPTY_LOG {
-        return LastEntry::Empty;
-    }
-    if last_entry == bytes.len() {
-        return LastEntry::Unknown;
-    }
-    LastEntry::At(last_entry)
 }
 
 /// Returns how PCR 0 starts: at this locality if it is below 256, else as the log says.

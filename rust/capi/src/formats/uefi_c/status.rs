@@ -135,6 +135,18 @@ pub(crate) const BAD_SIGNATURE_LIST: UefiStatus = 40;
 /// A signature has at least the sixteen bytes of its owner.
 pub(crate) const BAD_SIGNATURE_SIZE: UefiStatus = 41;
 
+/// The node is an end-entire node, with which each path ends.
+pub(crate) const ENDS_PATH: UefiStatus = 42;
+
+/// No node has the name before the offset.
+pub(crate) const UNKNOWN_NODE: UefiStatus = 43;
+
+/// The character at the offset isn't expected.
+pub(crate) const UNEXPECTED_CHARACTER: UefiStatus = 44;
+
+/// Something is missing from the text at the offset.
+pub(crate) const MISSING_TEXT: UefiStatus = 45;
+
 /// Writes what a status says, in ASCII and without a NUL; of a number that is none
 /// `unknown status`.
 #[unsafe(no_mangle)]
@@ -200,6 +212,10 @@ fn text_of_logs(status: UefiStatus) -> &'static str {
         BAD_SELECTION => "the selection isn't one of a PC",
         BAD_SIGNATURE_LIST => "the bytes begin with no signature list",
         BAD_SIGNATURE_SIZE => "the size of a signature is below 16",
+        ENDS_PATH => "the node ends a path",
+        UNKNOWN_NODE => "no node has the name",
+        UNEXPECTED_CHARACTER => "a character isn't expected",
+        MISSING_TEXT => "something is missing from the text",
         _ => "unknown status",
     }
 }

@@ -4,7 +4,7 @@ use crate::support::fallible::*;
 
 use crate::audit_text::json::event::hex_json;
 use uefi_formats::pcr::{BankPcrs, PcrValue, Pcrs, Undetermined};
-use crate::serde_json::{Map, Value, json, put};
+use crate::serde_json::{Value, json};
 use crate::support::alloc::AllocError;
 use crate::uefi_audits::naming::bank_name;
 
@@ -28,14 +28,10 @@ fn each_bank(banks: &[BankPcrs]) -> Result<Vec<Value>, AllocError> {
 
 /// Returns a bank: its name, its PCRs, and the events by which some are undetermined.
 fn bank_json(bank: &BankPcrs) -> Result<Value, AllocError> {
-    let mut members = Map::new();
-    let name = Value::try_from_str(bank_name(bank.bank))?;
-    put(&mut members, "algorithm", name)?;
+    let name = bank_name(bank.bank);
     let outcomes = Value::Array(outcomes_json(&bank.pcrs)?);
-    put(&mut members, "pcrs", outcomes)?;
     let undetermined = Value::Array(all_undetermined(&bank.pcrs)?);
-    put(&mut members, "undetermined", undetermined)?;
-    Ok(Value::Object(members))
+    json!({"algorithm": name, "pcrs": outcomes, "undetermined": undetermined})
 }
 
 /// Returns what each PCR holds.

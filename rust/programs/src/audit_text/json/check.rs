@@ -5,9 +5,9 @@
 use crate::support::fallible::*;
 
 use super::out_of_place::push_remarks;
-use crate::audit_text::json::{line_of, type_json};
+use crate::audit_text::json::{push_line, type_json};
 use crate::audit_text::words::form_name;
-use crate::serde_json::{Map, Value, put};
+use crate::serde_json::{Map, Value, json, put};
 use crate::support::alloc::AllocError;
 use crate::uefi_audits::check::{CheckResult, Form, Mismatch, TypeCounts};
 
@@ -73,8 +73,7 @@ fn push_mismatch(
     mismatch: &Mismatch<'_>,
 ) -> Result<(), AllocError> {
     let value = mismatch_json(log, mismatch)?;
-    let line = line_of(&value)?;
-    fallible_writeln!(text, "{line}")
+    push_line(text, &value)
 }
 
 /// Returns an event that matches in none of its type's forms.
@@ -100,18 +99,13 @@ fn push_types(
     types: &[TypeCounts],
 ) -> Result<(), AllocError> {
     let value = types_json(log, types)?;
-    let line = line_of(&value)?;
-    fallible_writeln!(text, "{line}")
+    push_line(text, &value)
 }
 
 /// Returns the counts of the types.
 fn types_json(log: &str, types: &[TypeCounts]) -> Result<Value, AllocError> {
-    let mut members = Map::new();
     let checked = Value::Array(each_type(types)?);
-    put(&mut members, "checked", checked)?;
-    let log = Value::try_from_str(log)?;
-    put(&mut members, "log", log)?;
-    Ok(Value::Object(members))
+    json!({"checked": checked, "log": log})
 }
 
 /// Returns the counts of each type.

@@ -3,7 +3,7 @@
 use crate::support::fallible::*;
 
 use uefi_formats::pcr::Bank;
-use crate::serde_json::{Map, Value, put};
+use crate::serde_json::{Value, json};
 use crate::support::alloc::AllocError;
 use crate::uefi_audits::naming::bank_name;
 use crate::uefi_audits::verify::{Coverage, NamedPcr};
@@ -76,18 +76,10 @@ fn push_if_any(
     if pcrs.is_empty() {
         return Ok(());
     }
-    let value = pcrs_json(bank, pcrs)?;
+    let pcrs = Value::Array(each_number(pcrs)?);
+    let value = json!({"bank": bank, "pcrs": pcrs})?;
     values.fallible_push(value)?;
     Ok(())
-}
-
-/// Returns the object of PCRs of a bank.
-fn pcrs_json(bank: Value, pcrs: &[u32]) -> Result<Value, AllocError> {
-    let mut members = Map::new();
-    put(&mut members, "bank", bank)?;
-    let pcrs = Value::Array(each_number(pcrs)?);
-    put(&mut members, "pcrs", pcrs)?;
-    Ok(Value::Object(members))
 }
 
 /// Returns each number of a PCR.

@@ -5,8 +5,8 @@ use crate::support::fallible::*;
 use crate::audit_text::compared_logs::ComparedLogs;
 use crate::audit_text::json::digests::algorithm_json;
 use crate::audit_text::json::event::event_json;
-use crate::audit_text::json::line::line_of;
-use crate::serde_json::{Map, Value, put};
+use crate::audit_text::json::line::push_line;
+use crate::serde_json::{Map, Value, json, put};
 use crate::support::alloc::AllocError;
 use crate::uefi_audits::diff::{EventChange, NumberedEntry, PcrDifference};
 use uefi_formats::proto::tcg::AlgorithmId;
@@ -42,30 +42,15 @@ pub fn push_differences_json(
     logs: &ComparedLogs<'_>,
     differences: &[PcrDifference<'_>],
 ) -> Result<(), AllocError> {
-    push_compared(text, logs)?;
+    let compared = compared_json(logs)?;
+    push_line(text, &compared)?;
     push_pcrs(text, logs, differences)
-}
-
-/// Appends the line that says what is compared.
-fn push_compared(
-    text: &mut String,
-    logs: &ComparedLogs<'_>,
-) -> Result<(), AllocError> {
-    let value = compared_json(logs)?;
-    let line = line_of(&value)?;
-    fallible_writeln!(text, "{line}")
 }
 
 /// Returns what is compared.
 fn compared_json(logs: &ComparedLogs<'_>) -> Result<Value, AllocError> {
-    let mut members = Map::new();
     let algorithms = Value::Array(each_algorithm(logs.algorithms)?);
-    put(&mut members, "compared", algorithms)?;
-    let new = Value::try_from_str(logs.new_name)?;
-    put(&mut members, "new", new)?;
-    let old = Value::try_from_str(logs.old_name)?;
-    put(&mut members, "old", old)?;
-    Ok(Value::Object(members))
+    json!({"compared": algorithms, "new": logs.new_name, "old": logs.old_name})
 }
 
 /// Returns each algorithm.
@@ -133,21 +118,11 @@ fn push_pair(
     kind: &str,
     change: &EventChange<'_>,
 ) -> Result<(), AllocError> {
-    let value = pair_json(logs, kind, change)?;
-    let line = line_of(&value)?;
-    fallible_writeln!(text, "{line}")
-}
-
-/// Returns an event and its counterpart.
-fn pair_json(
-    logs: &ComparedLogs<'_>,
-    kind: &str,
-    change: &EventChange<'_>,
-) -> Result<Value, AllocError> {
     let pcr = change.old.entry.event.pcr_index().0;
     let old = entry_json(logs.old_name, &change.old)?;
     let new = entry_json(logs.new_name, &change.new)?;
-    difference_json(kind, pcr, old, new)
+    let value = difference_json(kind, pcr, old, new)?;
+    push_line(text, &value)
 }
 
 /// Appends a line for each of these events of the old log, which the new one doesn't have.
@@ -168,19 +143,10 @@ fn push_old(
     logs: &ComparedLogs<'_>,
     found: &NumberedEntry<'_>,
 ) -> Result<(), AllocError> {
-    let value = old_json(logs, found)?;
-    let line = line_of(&value)?;
-    fallible_writeln!(text, "{line}")
-}
-
-/// Returns an event of the old log, which the new one doesn't have.
-fn old_json(
-    logs: &ComparedLogs<'_>,
-    found: &NumberedEntry<'_>,
-) -> Result<Value, AllocError> {
     let pcr = found.entry.event.pcr_index().0;
     let old = entry_json(logs.old_name, found)?;
-    difference_json("only_old", pcr, old, Value::Null)
+    let value = difference_json("only_old", pcr, old, Value::Null)?;
+    push_line(text, &value)
 }
 
 /// Appends a line for each of these events of the new log, which the old one doesn't have.
@@ -201,19 +167,10 @@ fn push_new(
     logs: &ComparedLogs<'_>,
     found: &NumberedEntry<'_>,
 ) -> Result<(), AllocError> {
-    let value = new_json(logs, found)?;
-    let line = line_of(&value)?;
-    fallible_writeln!(text, "{line}")
-}
-
-/// Returns an event of the new log, which the old one doesn't have.
-fn new_json(
-    logs: &ComparedLogs<'_>,
-    found: &NumberedEntry<'_>,
-) -> Result<Value, AllocError> {
     let pcr = found.entry.event.pcr_index().0;
     let new = entry_json(logs.new_name, found)?;
-    difference_json("only_new", pcr, Value::Null, new)
+    let value = difference_json("only_new", pcr, Value::Null, new)?;
+    push_line(text, &value)
 }
 
 /// Returns what differs: what kind of difference it is, its PCR, and what each log has.

@@ -7,29 +7,12 @@ use uefi_formats::pcr::{Bank, is_hash_of_data};
 use crate::serde_json::{Value, json};
 use crate::support::alloc::AllocError;
 use crate::uefi_audits::naming::bank_name;
-use uefi_formats::proto::tcg::v2::PcrEventDigests;
 use uefi_formats::proto::tcg::{AlgorithmId, LogEvent};
 
 /// Returns the digests of an event as JSON, in order.
 pub(crate) fn digests_json(event: &LogEvent<'_>) -> Result<Vec<Value>, AllocError> {
-    match event {
-        LogEvent::V1(event) => sha1_digest(event.digest().as_slice()),
-        LogEvent::V2(event) => many_digests(event.digests()),
-    }
-}
-
-/// Returns the digest of a version 1 event, which is SHA-1's.
-fn sha1_digest(digest: &[u8]) -> Result<Vec<Value>, AllocError> {
     let mut values = Vec::new();
-    let value = digest_json(AlgorithmId::SHA1, digest)?;
-    values.fallible_push(value)?;
-    Ok(values)
-}
-
-/// Returns the digests of a version 2 event.
-fn many_digests(digests: PcrEventDigests<'_>) -> Result<Vec<Value>, AllocError> {
-    let mut values = Vec::new();
-    for (algorithm, digest) in digests {
+    for (algorithm, digest) in event.digests() {
         let value = digest_json(algorithm, digest)?;
         values.fallible_push(value)?;
     }

@@ -3,7 +3,7 @@
 use crate::audit_text::json::content::content_json;
 use crate::audit_text::json::digests::{digests_json, hashed_banks};
 use crate::audit_text::json::line::line_of;
-use crate::serde_json::{Map, Value, json, put};
+use crate::serde_json::{Value, json};
 use crate::support::alloc::AllocError;
 use crate::uefi_audits::content::{EventContent, read_content};
 use uefi_formats::proto::tcg::{EventType, LogEntry, UintnSize};
@@ -92,24 +92,15 @@ pub(crate) fn event_json(
     content: &EventContent<'_>,
 ) -> Result<Value, AllocError> {
     let event = &entry.event;
-    let mut members = Map::new();
     let content = content_json(content)?;
-    put(&mut members, "content", content)?;
     let data = hex_json(event.event_data())?;
-    put(&mut members, "data", data)?;
     let digests = Value::Array(digests_json(event)?);
-    put(&mut members, "digests", digests)?;
     let hashes_to = Value::Array(hashed_banks(event)?);
-    put(&mut members, "hashes_to", hashes_to)?;
-    put(&mut members, "index", Value::from(index))?;
-    let log = Value::try_from_str(log)?;
-    put(&mut members, "log", log)?;
-    put(&mut members, "offset", Value::from(entry.offset))?;
-    let pcr = event.pcr_index().0;
-    put(&mut members, "pcr", Value::from(pcr))?;
-    let event_type = type_json(event.event_type())?;
-    put(&mut members, "type", event_type)?;
-    Ok(Value::Object(members))
+    let kind = type_json(event.event_type())?;
+    json!({
+        "content": content, "data": data, "digests": digests, "hashes_to": hashes_to,
+        "index": index, "log": log, "offset": entry.offset, "pcr": event.pcr_index().0, "type": kind
+    })
 }
 
 /// Returns bytes as a text of hex digits.

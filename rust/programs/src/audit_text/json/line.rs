@@ -3,7 +3,7 @@
 use crate::support::fallible::*;
 
 use crate::serde_json::Value;
-use crate::shown::is_control;
+use crate::shown::{HexByte, is_control};
 use crate::support::alloc::AllocError;
 
 /// Returns the text of a value on one line, without spaces and without a line's end: each control
@@ -11,6 +11,12 @@ use crate::support::alloc::AllocError;
 pub(crate) fn line_of(value: &Value) -> Result<String, AllocError> {
     let text = value.fallible_to_string()?;
     escaped(text)
+}
+
+/// Appends the line of a value, and a line break.
+pub(crate) fn push_line(text: &mut String, value: &Value) -> Result<(), AllocError> {
+    let line = line_of(value)?;
+    fallible_writeln!(text, "{line}")
 }
 
 /// Returns whether a character is escaped.
@@ -50,6 +56,7 @@ fn push_character(line: &mut String, character: char) -> Result<(), AllocError> 
 
 /// Appends `\u` and four hex digits.
 fn push_escape(line: &mut String, character: u32) -> Result<(), AllocError> {
-    let (high, low) = ((character / 256) as u8, (character % 256) as u8);
-    fallible_write!(line, "\\u{high:02x}{low:02x}")
+    let high = HexByte((character / 256) as u8);
+    let low = HexByte((character % 256) as u8);
+    fallible_write!(line, "\\u{high}{low}")
 }

@@ -51,13 +51,10 @@ fn each_algorithm(algorithms: &[u16]) -> Result<Vec<Value>, AllocError> {
 fn algorithm_json(algorithm: u16) -> Result<Value, AllocError> {
     match bank_of(AlgorithmId(algorithm)) {
         Some(bank) => Value::try_from_str(bank_name(bank)),
-        None => number_json(algorithm),
+        None => {
+            let mut digits = String::new();
+            push_number(&mut digits, algorithm)?;
+            Ok(Value::String(digits))
+        }
     }
-}
-
-/// Returns an algorithm's number in hex.
-fn number_json(algorithm: u16) -> Result<Value, AllocError> {
-    let mut digits = String::new();
-    push_number(&mut digits, algorithm)?;
-    Ok(Value::String(digits))
 }

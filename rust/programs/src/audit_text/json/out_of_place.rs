@@ -2,9 +2,9 @@
 
 //! The remarks on the places of a log's events, as JSON.
 
-use crate::audit_text::json::{line_of, type_json};
+use crate::audit_text::json::{push_line, type_json};
 use crate::audit_text::words::rule_name;
-use crate::serde_json::{Map, Value, put};
+use crate::serde_json::{Map, Value, json, put};
 use crate::support::alloc::AllocError;
 use crate::uefi_audits::out_of_place::{OutOfPlace, Remarks};
 
@@ -38,8 +38,7 @@ fn push_event(
     found: &OutOfPlace<'_>,
 ) -> Result<(), AllocError> {
     let value = misplaced_json(log, found)?;
-    let line = line_of(&value)?;
-    fallible_writeln!(text, "{line}")
+    push_line(text, &value)
 }
 
 /// Returns an event that is out of place.
@@ -74,17 +73,10 @@ fn push_unseparated(
 /// Appends the line of a PCR without a separator.
 fn push_pcr(text: &mut String, log: &str, pcr: u32) -> Result<(), AllocError> {
     let value = unseparated_json(log, pcr)?;
-    let line = line_of(&value)?;
-    fallible_writeln!(text, "{line}")
+    push_line(text, &value)
 }
 
 /// Returns a PCR without a separator.
 fn unseparated_json(log: &str, pcr: u32) -> Result<Value, AllocError> {
-    let mut members = Map::new();
-    let log = Value::try_from_str(log)?;
-    put(&mut members, "log", log)?;
-    let rule = Value::try_from_str("no separator")?;
-    put(&mut members, "out_of_place", rule)?;
-    put(&mut members, "pcr", Value::from(pcr))?;
-    Ok(Value::Object(members))
+    json!({"log": log, "out_of_place": "no separator", "pcr": pcr})
 }

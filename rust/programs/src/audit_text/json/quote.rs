@@ -5,7 +5,7 @@ use crate::support::fallible::*;
 use crate::audit_text::json::coverage::{covered_json, not_covered_json, push_unless};
 use crate::audit_text::json::digests::algorithm_json;
 use crate::audit_text::json::event::hex_json;
-use crate::audit_text::json::line::line_of;
+use crate::audit_text::json::line::push_line;
 use uefi_formats::pcr::{NoQuoteDigest, PcrValue};
 use crate::serde_json::{Map, Value, json, put};
 use crate::support::alloc::AllocError;
@@ -44,19 +44,12 @@ pub fn push_quote_json(
     name: &str,
     compared: &ComparedQuote<'_>,
 ) -> Result<(), AllocError> {
-    let banks = banks_json(&compared.verdict.received.quote)?;
-    let quote = quote_json(&compared.verdict, banks)?;
-    let value = object_json(name, compared, quote)?;
-    let line = line_of(&value)?;
-    fallible_writeln!(text, "{line}")
+    let value = quote_json(name, compared)?;
+    push_line(text, &value)
 }
 
 /// Returns the object of a log.
-fn object_json(
-    name: &str,
-    compared: &ComparedQuote<'_>,
-    quote: Value,
-) -> Result<Value, AllocError> {
+fn quote_json(name: &str, compared: &ComparedQuote<'_>) -> Result<Value, AllocError> {
     let mut members = Map::new();
     put(
         &mut members,
@@ -73,6 +66,7 @@ fn object_json(
     put(&mut members, "log", log)?;
     let not_covered = not_covered_json(&compared.coverage)?;
     put(&mut members, "not_covered", not_covered)?;
+    let quote = quote_object(&compared.verdict)?;
     put(&mut members, "quote", quote)?;
     Ok(Value::Object(members))
 }
@@ -92,10 +86,11 @@ fn failed_json(compared: &ComparedQuote<'_>) -> Result<Value, AllocError> {
 }
 
 /// Returns the object of a quote.
-fn quote_json(verdict: &QuoteVerdict<'_>, banks: Value) -> Result<Value, AllocError> {
+fn quote_object(verdict: &QuoteVerdict<'_>) -> Result<Value, AllocError> {
     let received = &verdict.received;
     let quote = &received.quote;
     let mut members = Map::new();
+    let banks = Value::Array(each_selection(quote)?);
     put(&mut members, "banks", banks)?;
     let clock = clock_json(quote.clock_info())?;
     put(&mut members, "clock", clock)?;
@@ -117,11 +112,6 @@ fn quote_json(verdict: &QuoteVerdict<'_>, banks: Value) -> Result<Value, AllocEr
     Ok(Value::Object(members))
 }
 
-/// Returns the selections of a quote.
-fn banks_json(quote: &Quote<'_>) -> Result<Value, AllocError> {
-    Ok(Value::Array(each_selection(quote)?))
-}
-
 /// Returns each selection of a quote.
 fn each_selection(quote: &Quote<'_>) -> Result<Vec<Value>, AllocError> {
     let mut values = Vec::new();
@@ -134,12 +124,9 @@ fn each_selection(quote: &Quote<'_>) -> Result<Vec<Value>, AllocError> {
 
 /// Returns a selection: the algorithm of its bank, and its PCRs.
 fn selection_json(selection: &PcrSelection<'_>) -> Result<Value, AllocError> {
-    let mut members = Map::new();
     let algorithm = algorithm_json(selection.algorithm())?;
-    put(&mut members, "algorithm", algorithm)?;
     let pcrs = Value::Array(pcrs_json(selection)?);
-    put(&mut members, "pcrs", pcrs)?;
-    Ok(Value::Object(members))
+    json!({"algorithm": algorithm, "pcrs": pcrs})
 }
 
 /// Returns the PCRs of a selection.

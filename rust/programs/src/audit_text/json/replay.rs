@@ -1,13 +1,13 @@
 // @generated from proved source. It is not edited.
 
 use crate::audit_text::json::bank::banks_json;
-use crate::audit_text::json::line::line_of;
+use crate::audit_text::json::line::push_line;
 use crate::audit_text::json::not_replayed::not_replayed_json;
 use uefi_formats::pcr::BankPcrs;
 use crate::serde_json::{Map, Value, json, put};
 use crate::support::alloc::AllocError;
 use crate::uefi_audits::facts::LogFacts;
-use crate::uefi_audits::start::KnownStart;
+use crate::uefi_audits::known_start::KnownStart;
 
 /// Appends what a log leads to as one line of JSON: an object, and a line break.
 ///
@@ -39,8 +39,7 @@ pub fn push_replay_json(
     banks: Option<&[BankPcrs]>,
 ) -> Result<(), AllocError> {
     let value = replay_json(name, facts, banks)?;
-    let line = line_of(&value)?;
-    fallible_writeln!(text, "{line}")
+    push_line(text, &value)
 }
 
 /// Returns the object of a log with this name.

@@ -2,8 +2,8 @@
 
 use crate::support::fallible::*;
 
-use crate::audit_text::json::line::line_of;
-use crate::serde_json::{Map, Value, put};
+use crate::audit_text::json::line::push_line;
+use crate::serde_json::{Value, json};
 use crate::support::alloc::AllocError;
 
 /// Why a log isn't judged by PCRs or a quote.
@@ -18,9 +18,9 @@ pub enum NotJudged {
     /// The hash function of the quote's digest isn't known.
     UnknownHash,
     /// The log's header has more algorithms than are read.
-    ManyAlgorithms,
+    TooManyAlgorithms,
     /// Bytes follow the log's last event that are no padding.
-    TrailingBytes,
+    LeftOver,
     /// No event extends a PCR.
     NothingMeasured,
     /// No event has a digest of a bank that the quote covers, or it can't be replayed.
@@ -39,8 +39,8 @@ impl NotJudged {
             NotJudged::MalformedQuote => "malformed quote",
             NotJudged::NoNonce => "no nonce",
             NotJudged::UnknownHash => "unknown hash",
-            NotJudged::ManyAlgorithms => "many algorithms",
-            NotJudged::TrailingBytes => "trailing bytes",
+            NotJudged::TooManyAlgorithms => "many algorithms",
+            NotJudged::LeftOver => "trailing bytes",
             NotJudged::NothingMeasured => "nothing measured",
             NotJudged::NoBank => "no bank",
             NotJudged::Undetermined => "undetermined",
@@ -67,28 +67,20 @@ pub fn push_unjudged_json(
     name: &str,
     why: NotJudged,
 ) -> Result<(), AllocError> {
-    let value = object_json(name, why)?;
-    let line = line_of(&value)?;
-    fallible_writeln!(text, "{line}")
+    let value = unjudged_json(name, why)?;
+    push_line(text, &value)
 }
 
 /// Returns the object of a log.
-fn object_json(name: &str, why: NotJudged) -> Result<Value, AllocError> {
-    let mut members = Map::new();
-    put(&mut members, "agrees", Value::Null)?;
-    put(&mut members, "covered", Value::Null)?;
-    let failed = Value::Array(reason_alone(why)?);
-    put(&mut members, "failed", failed)?;
-    let log = Value::try_from_str(name)?;
-    put(&mut members, "log", log)?;
-    put(&mut members, "not_covered", Value::Null)?;
-    Ok(Value::Object(members))
-}
-
-/// Returns the reason as the one value.
-fn reason_alone(why: NotJudged) -> Result<Vec<Value>, AllocError> {
-    let mut values = Vec::new();
-    let reason = Value::try_from_str(why.text())?;
-    values.fallible_push(reason)?;
-    Ok(values)
+fn unjudged_json(name: &str, why: NotJudged) -> Result<Value, AllocError> {
+    let mut failed = Vec::new();
+    failed.fallible_push(Value::try_from_str(why.text())?)?;
+    let failed = Value::Array(failed);
+    json!({
+        "agrees": Value::Null,
+        "covered": Value::Null,
+        "failed": failed,
+        "log": name,
+        "not_covered": Value::Null
+    })
 }

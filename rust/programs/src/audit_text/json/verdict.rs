@@ -4,7 +4,7 @@ use crate::support::fallible::*;
 
 use crate::audit_text::json::coverage::{covered_json, not_covered_json, push_unless};
 use crate::audit_text::json::event::hex_json;
-use crate::audit_text::json::line::line_of;
+use crate::audit_text::json::line::push_line;
 use uefi_formats::pcr::{BankPcrs, PcrValue, Undetermined};
 use crate::serde_json::{Map, Value, json, put};
 use crate::support::alloc::AllocError;
@@ -42,32 +42,26 @@ pub fn push_verdict_json(
     name: &str,
     compared: &ComparedPcrs,
 ) -> Result<(), AllocError> {
-    let held = compared.held.as_slice();
-    let disagreeing = disagreeing_json(held, compared.verdict.replays.as_slice())?;
-    let value = verdict_json(name, compared, disagreeing)?;
-    let line = line_of(&value)?;
-    fallible_writeln!(text, "{line}")
+    let value = verdict_json(name, compared)?;
+    push_line(text, &value)
 }
 
 /// Returns the object of a log.
-fn verdict_json(
-    name: &str,
-    compared: &ComparedPcrs,
-    disagreeing: Value,
-) -> Result<Value, AllocError> {
+fn verdict_json(name: &str, compared: &ComparedPcrs) -> Result<Value, AllocError> {
+    let (held, replays) = (
+        compared.held.as_slice(),
+        compared.verdict.replays.as_slice(),
+    );
     let mut members = Map::new();
     put(
         &mut members,
         "agrees",
         Value::Bool(compared.agrees()),
     )?;
-    put(
-        &mut members,
-        "count",
-        Value::from(compared.held.len()),
-    )?;
+    put(&mut members, "count", Value::from(held.len()))?;
     let covered = covered_json(compared.coverage.covered.as_slice())?;
     put(&mut members, "covered", covered)?;
+    let disagreeing = Value::Array(each_disagreeing(held, replays)?);
     put(&mut members, "disagreeing", disagreeing)?;
     let failed = failed_json(compared)?;
     put(&mut members, "failed", failed)?;
@@ -86,14 +80,6 @@ fn failed_json(compared: &ComparedPcrs) -> Result<Value, AllocError> {
     push_unless(&mut failed, compared.verdict.is_agreement(), "pcrs")?;
     push_unless(&mut failed, compared.coverage.is_whole(), "coverage")?;
     Ok(Value::Array(failed))
-}
-
-/// Returns the PCRs that don't agree.
-fn disagreeing_json(
-    held: &[HeldPcr],
-    replays: &[BankPcrs],
-) -> Result<Value, AllocError> {
-    Ok(Value::Array(each_disagreeing(held, replays)?))
 }
 
 /// Returns each PCR that doesn't agree.
@@ -117,10 +103,7 @@ fn push_if_disagreeing(
     if agrees(held, replays) {
         return Ok(());
     }
-    let outcome = led_to(held, replays);
-    let led = led_json(outcome)?;
-    let undetermined = undetermined_by(outcome)?;
-    let value = pcr_json(led, undetermined, held)?;
+    let value = pcr_json(held, led_to(held, replays))?;
     values.fallible_push(value)?;
     Ok(())
 }
@@ -128,17 +111,18 @@ fn push_if_disagreeing(
 /// Returns a PCR that doesn't agree: what it held, what the log leads to, and the event by which it
 /// is undetermined.
 fn pcr_json(
-    led: Value,
-    undetermined: Value,
     held: &HeldPcr,
+    outcome: Option<&Result<PcrValue, Undetermined>>,
 ) -> Result<Value, AllocError> {
     let mut members = Map::new();
     let bank = Value::try_from_str(bank_name(held.bank))?;
     put(&mut members, "bank", bank)?;
     let held_value = hex_json(held.value.as_bytes())?;
     put(&mut members, "held", held_value)?;
+    let led = led_json(outcome)?;
     put(&mut members, "leads_to", led)?;
     put(&mut members, "pcr", Value::from(held.pcr))?;
+    let undetermined = undetermined_by(outcome)?;
     put(&mut members, "undetermined", undetermined)?;
     Ok(Value::Object(members))
 }

@@ -11,10 +11,6 @@
 pub use self::blocks::{push_event_blocks, push_header_block};
 
 mod blocks;
-pub(crate) mod content;
-mod firmware;
-mod gpt;
 mod hex_lines;
 pub(crate) mod names;
-mod signatures;
-mod variable;
+pub(crate) mod parts;

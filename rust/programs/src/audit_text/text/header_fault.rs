@@ -14,25 +14,14 @@ pub fn push_header_fault(
     name: &str,
     fault: Option<HeaderFault>,
 ) -> Result<(), AllocError> {
-    match fault {
-        Some(fault) => push_line(messages, name, fault),
-        None => Ok(()),
-    }
-}
-
-/// Appends the line of a fault.
-fn push_line(
-    messages: &mut String,
-    name: &str,
-    fault: HeaderFault,
-) -> Result<(), AllocError> {
     let name = ShownName(name);
     match fault {
-        HeaderFault::Pcr(pcr) => fallible_writeln!(messages,
+        Some(HeaderFault::Pcr(pcr)) => fallible_writeln!(messages,
             "{name}: its header is of PCR {pcr}, not of PCR 0, so that it is read as version 1"
         ),
-        HeaderFault::Digest => fallible_writeln!(messages,
+        Some(HeaderFault::Digest) => fallible_writeln!(messages,
             "{name}: the digest of its header isn't zero, so that it is read as version 1"
         ),
+        None => Ok(()),
     }
 }

@@ -2,7 +2,7 @@
 
 use crate::shown::ShownName;
 use crate::support::alloc::AllocError;
-use crate::uefi_audits::start::KnownStart;
+use crate::uefi_audits::known_start::KnownStart;
 
 /// Appends the line that says at which locality PCR 0 starts, if neither the log nor the caller states
 /// one.

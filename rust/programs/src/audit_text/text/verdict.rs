@@ -50,20 +50,11 @@ fn push_if_disagreeing(
     if agrees(held, replays) {
         return Ok(());
     }
-    push_held(text, name, held)?;
-    let locality = verdict.start.start.locality;
-    push_outcome(text, held.pcr, locality, led_to(held, replays))
-}
-
-/// Appends which PCR doesn't agree, and what it held.
-fn push_held(
-    text: &mut String,
-    name: &str,
-    held: &HeldPcr,
-) -> Result<(), AllocError> {
     let (name, bank, pcr) = (ShownName(name), bank_name(held.bank), held.pcr);
     let digits = crate::hex::encode_upper(held.value.as_bytes())?;
-    fallible_write!(text, "{name}: {bank} PCR {pcr} held 0x{digits}")
+    fallible_write!(text, "{name}: {bank} PCR {pcr} held 0x{digits}")?;
+    let locality = verdict.start.start.locality;
+    push_outcome(text, pcr, locality, led_to(held, replays))
 }
 
 /// Appends what the log leads to in a PCR.
@@ -76,7 +67,7 @@ fn push_outcome(
     match outcome {
         None => fallible_writeln!(text, ", and the log has no such PCR"),
         Some(Ok(value)) => push_value(text, pcr, locality, value),
-        Some(Err(at)) => push_undetermined(text, at),
+        Some(Err(at)) => fallible_writeln!(text, ", undetermined: {at}"),
     }
 }
 
@@ -94,12 +85,4 @@ fn push_value(
         );
     }
     fallible_writeln!(text, ", the log leads to 0x{digits}")
-}
-
-/// Appends the event by which a PCR is undetermined.
-fn push_undetermined(
-    text: &mut String,
-    at: &Undetermined,
-) -> Result<(), AllocError> {
-    fallible_writeln!(text, ", undetermined: {at}")
 }

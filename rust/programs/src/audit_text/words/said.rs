@@ -5,11 +5,9 @@ use crate::support::fallible::*;
 use crate::audit_text::words::path_text;
 use crate::audit_text::words::tags::push_tag;
 use crate::audit_text::words::texts::name_text;
-use crate::shown::{ShownBytes, ShownName};
+use crate::shown::{Hex, HexNumber, ShownBytes, ShownName};
 use crate::support::alloc::AllocError;
-use uefi_formats::proto::tcg::content::{
-    CrtmVersion, EventText, ImageLoadEvent, PlatformFirmwareBlob, VariableData,
-};
+use uefi_formats::proto::tcg::content::{CrtmVersion, EventText, ImageLoadEvent};
 use crate::uefi_audits::content::{EventContent, TaggedData};
 use uefi_formats::UnalignedSlice;
 use uefi_formats::proto::device_path::DevicePath;
@@ -53,7 +51,10 @@ pub fn push_said(
         EventContent::Header(_) => text.fallible_push_str("header"),
         EventContent::LoaderText(said) => push_event(text, said),
         EventContent::CrtmVersion(version) => push_version(text, version),
-        EventContent::Blob(blob) => push_blob(text, blob),
+        EventContent::Blob(blob) => {
+            let address = HexNumber(blob.base);
+            fallible_write!(text, "blob at {address}")
+        }
         EventContent::DescribedBlob(described) => {
             text.fallible_push_str("blob ")?;
             push_bytes(text, described.description)
@@ -67,7 +68,10 @@ pub fn push_said(
         | EventContent::BootOption(variable, _)
         | EventContent::BootOrder(variable, _)
         | EventContent::SignatureLists(variable, _)
-        | EventContent::Signature(variable, _) => push_variable(text, variable),
+        | EventContent::Signature(variable, _) => {
+            text.fallible_push_str("variable ")?;
+            push_units(text, &variable.name)
+        }
         EventContent::Image(image, path) => push_image(text, image, path),
     }
 }
@@ -147,12 +151,6 @@ fn push_version(
     }
 }
 
-/// Appends where a blob is.
-fn push_blob(text: &mut String, blob: &PlatformFirmwareBlob) -> Result<(), AllocError> {
-    let address = blob.base;
-    fallible_write!(text, "blob at 0x{address:x}")
-}
-
 /// Appends the tag of the first tagged event.
 fn push_tagged(text: &mut String, tagged: &TaggedData<'_>) -> Result<(), AllocError> {
     match tagged.iter().next() {
@@ -162,15 +160,6 @@ fn push_tagged(text: &mut String, tagged: &TaggedData<'_>) -> Result<(), AllocEr
         }
         None => text.fallible_push_str("no tagged event"),
     }
-}
-
-/// Appends `variable` and the name of a variable.
-fn push_variable(
-    text: &mut String,
-    variable: &VariableData<'_>,
-) -> Result<(), AllocError> {
-    text.fallible_push_str("variable ")?;
-    push_units(text, &variable.name)
 }
 
 /// Appends `image` and its device path, if it has one.
@@ -204,19 +193,7 @@ fn push_path(
 /// Appends the first bytes in hex, and how many there are more.
 fn push_hex(text: &mut String, bytes: &[u8]) -> Result<(), AllocError> {
     let (first, rest) = bytes.split_at(SHOWN_LENGTH.min(bytes.len()));
-    push_hex_bytes(text, first)?;
+    let first = Hex(first);
+    fallible_write!(text, "{first}")?;
     push_more(text, rest.len())
-}
-
-/// Appends bytes in hex.
-fn push_hex_bytes(text: &mut String, bytes: &[u8]) -> Result<(), AllocError> {
-    for byte in bytes {
-        push_hex_byte(text, *byte)?;
-    }
-    Ok(())
-}
-
-/// Appends two hex digits.
-fn push_hex_byte(text: &mut String, byte: u8) -> Result<(), AllocError> {
-    fallible_write!(text, "{byte:02x}")
 }

@@ -55,7 +55,7 @@ pub(crate) fn shown(text: &str) -> Result<String, AllocError> {
 }
 
 /// Returns bytes that are no text as [`ShownBytes`] displays them.
-fn shown_bytes(bytes: &[u8]) -> Result<String, AllocError> {
+pub(crate) fn shown_bytes(bytes: &[u8]) -> Result<String, AllocError> {
     let shown = ShownBytes(bytes);
     fallible_format!("{shown}")
 }
@@ -66,30 +66,12 @@ fn shown_units(units: &UnalignedSlice<'_>) -> Result<String, AllocError> {
     shown(text.as_str())
 }
 
-/// Returns the text of an event; bytes that are no text as they are shown.
-pub(crate) fn event_text(text: &EventText<'_>) -> Result<String, AllocError> {
-    match text {
-        EventText::Utf8 { text, .. } => String::fallible_from_str(text),
-        EventText::Utf16 { units, .. } => name_text(units),
-        EventText::Other(bytes) => shown_bytes(bytes),
-    }
-}
-
 /// Returns the text of an event on one line, with nothing in it hidden.
 pub(crate) fn shown_event(text: &EventText<'_>) -> Result<String, AllocError> {
     match text {
         EventText::Utf8 { text, .. } => shown(text),
         EventText::Utf16 { units, .. } => shown_units(units),
         EventText::Other(bytes) => shown_bytes(bytes),
-    }
-}
-
-/// Returns the text of a version.
-pub(crate) fn version_text(version: &CrtmVersion<'_>) -> Result<String, AllocError> {
-    match version {
-        CrtmVersion::Ucs2(units) => name_text(units),
-        CrtmVersion::Guid(guid) => guid.fallible_to_string(),
-        CrtmVersion::Other(text) => event_text(text),
     }
 }
 

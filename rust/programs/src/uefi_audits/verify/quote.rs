@@ -2,11 +2,11 @@
 
 use crate::support::fallible::*;
 
-use crate::uefi_audits::replay::replay_banks;
-use crate::uefi_audits::start::KnownStart;
+use crate::uefi_audits::known_start::KnownStart;
+use crate::uefi_audits::replay::{replay_banks, restart_banks};
 use crate::uefi_audits::verify::covered::is_covered;
 use uefi_formats::pcr::entries::is_active;
-use uefi_formats::pcr::{Bank, NoQuoteDigest, PcrValue, is_quoted, quote_digest};
+use uefi_formats::pcr::{Bank, BankPcrs, NoQuoteDigest, PcrValue, Start, is_quoted, quote_digest};
 use crate::support::alloc::AllocError;
 use uefi_formats::pcr::Quote;
 use uefi_formats::proto::tcg::LogEntry;
@@ -69,10 +69,7 @@ impl<'a> QuoteVerdict<'a> {
         if start.is_stated {
             return QuoteVerdict::at(entries, received, start);
         }
-        let at_0 = QuoteVerdict::at(entries, received, KnownStart::assumed(0))?;
-        let at_3 = QuoteVerdict::at(entries, received, KnownStart::assumed(3))?;
-        let at_4 = QuoteVerdict::at(entries, received, KnownStart::assumed(4))?;
-        Ok(at_0.or(at_3).or(at_4))
+        QuoteVerdict::at_assumed(entries, received)
     }
 
     /// Returns whether the digests agree, and the quote has the nonce that it was asked for with. Any
@@ -95,17 +92,47 @@ impl<'a> QuoteVerdict<'a> {
         received: &ReceivedQuote<'a>,
         start: KnownStart,
     ) -> Result<QuoteVerdict<'a>, AllocError> {
-        let quote = &received.quote;
-        let banks = quoted_banks(entries, quote)?;
-        let replays = replay_banks(entries, banks.as_slice(), &start.start)?;
-        let digest = quote_digest(received.hash, quote, replays.as_slice());
-        let digest_agrees = is_digest(quote.pcr_digest(), &digest);
-        Ok(QuoteVerdict {
+        let replays = quoted_replays(entries, &received.quote, &start.start)?;
+        Ok(QuoteVerdict::of(received, replays.as_slice(), start))
+    }
+
+    /// Returns the verdict in a TPM of which nobody states how it was started.
+    fn at_assumed(
+        entries: &[LogEntry<'_>],
+        received: &ReceivedQuote<'a>,
+    ) -> Result<QuoteVerdict<'a>, AllocError> {
+        let start = KnownStart::assumed(0);
+        let replays = quoted_replays(entries, &received.quote, &start.start)?;
+        let replays = replays.as_slice();
+        let at_0 = QuoteVerdict::of(received, replays, start);
+        let (at_3, at_4) = (KnownStart::assumed(3), KnownStart::assumed(4));
+        let at_3 = QuoteVerdict::restarted(entries, received, replays, at_3)?;
+        let at_4 = QuoteVerdict::restarted(entries, received, replays, at_4)?;
+        Ok(at_0.or(at_3).or(at_4))
+    }
+
+    /// Returns the verdict in a TPM that was started so, by what the banks hold in one that was started
+    /// otherwise: PCR 0 alone is replayed.
+    fn restarted(
+        entries: &[LogEntry<'_>],
+        received: &ReceivedQuote<'a>,
+        replays: &[BankPcrs],
+        start: KnownStart,
+    ) -> Result<QuoteVerdict<'a>, AllocError> {
+        let replays = restart_banks(entries, replays, &start.start)?;
+        Ok(QuoteVerdict::of(received, replays.as_slice(), start))
+    }
+
+    /// Returns the verdict on a quote, beside the PCRs that a log leads to.
+    fn of(received: &ReceivedQuote<'a>, replays: &[BankPcrs], start: KnownStart) -> QuoteVerdict<'a> {
+        let digest = quote_digest(received.hash, &received.quote, replays);
+        let digest_agrees = is_digest(received.quote.pcr_digest(), &digest);
+        QuoteVerdict {
             received: *received,
             start,
             digest,
             digest_agrees,
-        })
+        }
     }
 
     /// Returns the one of two verdicts whose digest agrees, and the first if neither or both do.
@@ -115,6 +142,17 @@ impl<'a> QuoteVerdict<'a> {
         }
         self
     }
+}
+
+/// Returns what these events leave in the PCRs of the banks that have a selection in a quote and are
+/// active, in a TPM that was started so.
+fn quoted_replays(
+    entries: &[LogEntry<'_>],
+    quote: &Quote<'_>,
+    start: &Start,
+) -> Result<Vec<BankPcrs>, AllocError> {
+    let banks = quoted_banks(entries, quote)?;
+    replay_banks(entries, banks.as_slice(), start)
 }
 
 /// Returns the banks that have a selection in a quote and are active in these events, in the order of

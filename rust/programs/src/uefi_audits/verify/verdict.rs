@@ -1,13 +1,11 @@
 // @generated from proved source. It is not edited.
 
-use crate::support::fallible::*;
-
-use crate::uefi_audits::replay::replay_banks;
-use crate::uefi_audits::start::KnownStart;
+use crate::uefi_audits::known_start::KnownStart;
+use crate::uefi_audits::replay::{replay_banks, restart_banks};
 use crate::uefi_audits::verify::banks::held_banks;
 use crate::uefi_audits::verify::comparison::{differs, disagreeing, is_undetermined};
 use crate::uefi_audits::verify::held::HeldPcr;
-use uefi_formats::pcr::{BankPcrs, Start};
+use uefi_formats::pcr::BankPcrs;
 use crate::support::alloc::AllocError;
 use uefi_formats::proto::tcg::LogEntry;
 
@@ -100,18 +98,4 @@ impl Verdict {
     pub fn is_agreement(&self) -> bool {
         self.differing == 0 && self.undetermined == 0
     }
-}
-
-/// Returns what the PCRs of banks hold in a TPM that was started so, by what they hold in one that was
-/// started otherwise.
-fn restart_banks(
-    entries: &[LogEntry<'_>],
-    replays: &[BankPcrs],
-    start: &Start,
-) -> Result<Vec<BankPcrs>, AllocError> {
-    let mut found = Vec::new();
-    for replay in replays {
-        found.fallible_push(replay.restarted(entries, start))?;
-    }
-    Ok(found)
 }

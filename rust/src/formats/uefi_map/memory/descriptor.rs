@@ -3,11 +3,12 @@
 #[cfg(feature = "alloc")]
 use super::layout::DESCRIPTOR_LENGTH;
 use super::layout::{
-    ATTRIBUTE_OFFSET, PADDING_OFFSET, PAGE_COUNT_OFFSET, PHYS_START_OFFSET, TYPE_OFFSET,
-    VIRT_START_OFFSET,
+    ATTRIBUTE_OFFSET, DESCRIPTOR_ALIGNMENT, PADDING_OFFSET, PAGE_COUNT_OFFSET,
+    PHYS_START_OFFSET, TYPE_OFFSET, VIRT_START_OFFSET,
 };
 use super::memory_attribute::MemoryAttribute;
 use super::memory_type::MemoryType;
+use crate::formats::uefi_base::Align;
 use crate::formats::uefi_base::buffer::put;
 use crate::formats::uefi_base::little_endian::{u32_at, u64_at};
 
@@ -86,5 +87,12 @@ impl Default for MemoryDescriptor {
             page_count: 0,
             att: MemoryAttribute::empty(),
         }
+    }
+}
+
+impl Align for MemoryDescriptor {
+    #[inline]
+    fn alignment() -> usize {
+        DESCRIPTOR_ALIGNMENT
     }
 }

@@ -40,11 +40,8 @@ impl<'a> Iterator for MemoryMapIter<'a> {
 
     #[inline]
     fn next(&mut self) -> Option<MemoryDescriptor> {
-        if self.rest.is_empty() {
-            return None;
-        }
-        let (first, _) = self.rest.split_at(DESCRIPTOR_LENGTH);
-        let (_, rest) = self.rest.split_at(self.stride);
+        let (first, _) = self.rest.split_at_checked(DESCRIPTOR_LENGTH)?;
+        let (_, rest) = self.rest.split_at_checked(self.stride)?;
         self.rest = rest;
         Some(MemoryDescriptor::read(first))
     }

@@ -73,8 +73,9 @@ impl<'a> TryFrom<&'a [u8]> for ResourceList<'a> {
         while let Some((_, after)) = QwordAddressSpaceDescriptor::read(rest)? {
             rest = after;
         }
-        Ok(ResourceList {
-            records: &bytes[..bytes.len() - rest.len()],
-        })
+        let (records, _) = bytes
+            .split_at_checked(bytes.len() - rest.len())
+            .ok_or(ResourceError::NoEndTag)?;
+        Ok(ResourceList { records })
     }
 }

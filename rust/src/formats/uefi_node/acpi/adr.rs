@@ -2,12 +2,8 @@
 
 use crate::formats::uefi_node::acpi::adr_list::AdrList;
 use crate::formats::uefi_node::error::NodeConversionError;
-use crate::formats::uefi_node::read::{NodeValue, RestKind, read_node};
-use crate::formats::uefi_node::text::form::WriteText;
-use crate::formats::uefi_node::text::style::Style;
+use crate::formats::uefi_node::read::{NodeKind, NodeValue, RestKind, read_node};
 use crate::formats::uefi_node::write::{Tail, write_node};
-use core::fmt;
-use crate::formats::uefi_base::little_endian::u32_at;
 use crate::formats::uefi_path::build::{BuildError, BuildNode};
 use crate::formats::uefi_path::{DevicePathNode, DeviceSubType, DeviceType};
 
@@ -24,18 +20,19 @@ pub struct Adr<'a> {
     pub adr: AdrList<'a>,
 }
 
+/// The type of the nodes, and how long their data are.
+const KIND: NodeKind = NodeKind {
+    full_type: (DeviceType::ACPI, DeviceSubType::ACPI_ADR),
+    size: 0,
+    rest: RestKind::Numbers,
+};
+
 impl<'a> TryFrom<DevicePathNode<'a>> for Adr<'a> {
     type Error = NodeConversionError;
 
     #[inline]
     fn try_from(node: DevicePathNode<'a>) -> Result<Adr<'a>, NodeConversionError> {
-        read_node(
-            &node,
-            DeviceType::ACPI,
-            DeviceSubType::ACPI_ADR,
-            0,
-            RestKind::Numbers,
-        )
+        read_node(&node, KIND)
     }
 }
 
@@ -51,40 +48,11 @@ impl<'a> NodeValue<'a> for Adr<'a> {
 impl BuildNode for Adr<'_> {
     #[inline]
     fn full_type(&self) -> (DeviceType, DeviceSubType) {
-        (DeviceType::ACPI, DeviceSubType::ACPI_ADR)
+        KIND.full_type
     }
 
     #[inline]
     fn write(&self, buffer: &mut [u8]) -> Result<usize, BuildError> {
-        write_node(
-            buffer,
-            self,
-            self.full_type(),
-            &[],
-            Tail::Bytes(self.adr.as_bytes()),
-        )
+        write_node(buffer, KIND, self, &[], Tail::Bytes(self.adr.as_bytes()))
     }
-}
-
-impl WriteText for Adr<'_> {
-    #[inline]
-    fn write_text(
-        &self,
-        f: &mut fmt::Formatter<'_>,
-        _style: Style,
-    ) -> Option<fmt::Result> {
-        Some(write_addresses(f, self.adr.as_bytes()))
-    }
-}
-
-/// Writes the form: the addresses in `bytes`, four bytes each, with commas between them.
-#[inline]
-fn write_addresses(f: &mut fmt::Formatter<'_>, bytes: &[u8]) -> fmt::Result {
-    let first = u32_at(bytes, 0);
-    write!(f, "AcpiAdr(0x{first:X}")?;
-    for index in 1..bytes.len() / 4 {
-        let address = u32_at(bytes, 4 * index);
-        write!(f, ",0x{address:X}")?;
-    }
-    write!(f, ")")
 }

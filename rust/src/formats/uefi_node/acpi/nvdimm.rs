@@ -1,7 +1,7 @@
 // @generated from proved source. It is not edited.
 
 use crate::formats::uefi_node::error::NodeConversionError;
-use crate::formats::uefi_node::read::{NodeValue, RestKind, read_node};
+use crate::formats::uefi_node::read::{NodeKind, NodeValue, RestKind, read_node};
 use crate::formats::uefi_node::write::{Tail, joined, write_node};
 use crate::formats::uefi_base::little_endian::u32_at;
 use crate::formats::uefi_path::build::{BuildError, BuildNode};
@@ -20,18 +20,19 @@ pub struct Nvdimm {
     pub nfit_device_handle: u32,
 }
 
+/// The type of the nodes, and how long their data are.
+const KIND: NodeKind = NodeKind {
+    full_type: (DeviceType::ACPI, DeviceSubType::ACPI_NVDIMM),
+    size: 4,
+    rest: RestKind::Nothing,
+};
+
 impl<'a> TryFrom<DevicePathNode<'a>> for Nvdimm {
     type Error = NodeConversionError;
 
     #[inline]
     fn try_from(node: DevicePathNode<'a>) -> Result<Nvdimm, NodeConversionError> {
-        read_node(
-            &node,
-            DeviceType::ACPI,
-            DeviceSubType::ACPI_NVDIMM,
-            4,
-            RestKind::Nothing,
-        )
+        read_node(&node, KIND)
     }
 }
 
@@ -47,12 +48,12 @@ impl<'a> NodeValue<'a> for Nvdimm {
 impl BuildNode for Nvdimm {
     #[inline]
     fn full_type(&self) -> (DeviceType, DeviceSubType) {
-        (DeviceType::ACPI, DeviceSubType::ACPI_NVDIMM)
+        KIND.full_type
     }
 
     #[inline]
     fn write(&self, buffer: &mut [u8]) -> Result<usize, BuildError> {
         let fields = joined::<4>(&[&self.nfit_device_handle.to_le_bytes()]);
-        write_node(buffer, self, self.full_type(), &fields, Tail::Bytes(&[]))
+        write_node(buffer, KIND, self, &fields, Tail::Bytes(&[]))
     }
 }

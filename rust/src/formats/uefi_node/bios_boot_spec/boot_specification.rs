@@ -1,12 +1,8 @@
 // @generated from proved source. It is not edited.
 
 use crate::formats::uefi_node::error::NodeConversionError;
-use crate::formats::uefi_node::read::{NodeValue, RestKind, read_node};
-use crate::formats::uefi_node::text::arguments::{nul_ended_argument, write_argument};
-use crate::formats::uefi_node::text::form::WriteText;
-use crate::formats::uefi_node::text::style::Style;
+use crate::formats::uefi_node::read::{NodeKind, NodeValue, RestKind, read_node};
 use crate::formats::uefi_node::write::{Tail, joined, write_node};
-use core::fmt;
 use crate::formats::uefi_base::little_endian::u16_at;
 use crate::formats::uefi_path::build::{BuildError, BuildNode};
 use crate::formats::uefi_path::{DevicePathNode, DeviceSubType, DeviceType};
@@ -40,18 +36,22 @@ impl core::fmt::Debug for BootSpecification<'_> {
     }
 }
 
+/// The type of the nodes, and how long their data are.
+const KIND: NodeKind = NodeKind {
+    full_type: (
+        DeviceType::BIOS_BOOT_SPEC,
+        DeviceSubType::BIOS_BOOT_SPECIFICATION,
+    ),
+    size: 4,
+    rest: RestKind::Bytes,
+};
+
 impl<'a> TryFrom<DevicePathNode<'a>> for BootSpecification<'a> {
     type Error = NodeConversionError;
 
     #[inline]
     fn try_from(node: DevicePathNode<'a>) -> Result<BootSpecification<'a>, NodeConversionError> {
-        read_node(
-            &node,
-            DeviceType::BIOS_BOOT_SPEC,
-            DeviceSubType::BIOS_BOOT_SPECIFICATION,
-            4,
-            RestKind::Bytes,
-        )
+        read_node(&node, KIND)
     }
 }
 
@@ -70,10 +70,7 @@ impl<'a> NodeValue<'a> for BootSpecification<'a> {
 impl BuildNode for BootSpecification<'_> {
     #[inline]
     fn full_type(&self) -> (DeviceType, DeviceSubType) {
-        (
-            DeviceType::BIOS_BOOT_SPEC,
-            DeviceSubType::BIOS_BOOT_SPECIFICATION,
-        )
+        KIND.full_type
     }
 
     #[inline]
@@ -84,74 +81,11 @@ impl BuildNode for BootSpecification<'_> {
         ]);
         write_node(
             buffer,
+            KIND,
             self,
-            self.full_type(),
             &fields,
             Tail::Bytes(self.description_string),
         )
-    }
-}
-
-impl WriteText for BootSpecification<'_> {
-    #[inline]
-    fn write_text(
-        &self,
-        f: &mut fmt::Formatter<'_>,
-        style: Style,
-    ) -> Option<fmt::Result> {
-        let (kind, flag) = (self.device_type.0, self.status_flag);
-        let Some(description) = nul_ended_argument(self.description_string) else {
-            return None;
-        };
-        Some(if style.display_only {
-            write_short(f, kind, description)
-        } else {
-            write_full(f, kind, description, flag)
-        })
-    }
-}
-
-/// Writes the form for display.
-#[inline]
-fn write_short(
-    f: &mut fmt::Formatter<'_>,
-    kind: u16,
-    description: &[u8],
-) -> fmt::Result {
-    write!(f, "BBS({},", DeviceTypeText(kind))?;
-    write_argument(f, description)?;
-    write!(f, ")")
-}
-
-/// Writes the form with all fields.
-#[inline]
-fn write_full(
-    f: &mut fmt::Formatter<'_>,
-    kind: u16,
-    description: &[u8],
-    flag: u16,
-) -> fmt::Result {
-    write!(f, "BBS({},", DeviceTypeText(kind))?;
-    write_argument(f, description)?;
-    write!(f, ",0x{flag:X})")
-}
-
-/// The type of a boot device, displayed as its name, or else as its number.
-#[derive(Clone, Copy, Debug)]
-struct DeviceTypeText(u16);
-
-impl fmt::Display for DeviceTypeText {
-    fn fmt(&self, f: &mut fmt::Formatter<'_>) -> fmt::Result {
-        let number = self.0;
-        match number {
-            1 => f.write_str("Floppy"),
-            2 => f.write_str("HD"),
-            3 => f.write_str("CDROM"),
-            4 => f.write_str("PCMCIA"),
-            5 => f.write_str("USB"),
-            6 => f.write_str("Network"),
-            _ => write!(f, "0x{number:X}"),
-        }
     }
 }
 

@@ -1,11 +1,8 @@
 // @generated from proved source. It is not edited.
 
 use crate::formats::uefi_node::error::NodeConversionError;
-use crate::formats::uefi_node::read::{NodeValue, RestKind, read_node};
-use crate::formats::uefi_node::text::form::WriteText;
-use crate::formats::uefi_node::text::style::Style;
+use crate::formats::uefi_node::read::{NodeKind, NodeValue, RestKind, read_node};
 use crate::formats::uefi_node::write::{Tail, joined, write_node};
-use core::fmt;
 use crate::formats::uefi_base::little_endian::{u32_at, u64_at};
 use crate::formats::uefi_map::MemoryType;
 use crate::formats::uefi_path::build::{BuildError, BuildNode};
@@ -30,18 +27,19 @@ pub struct MemoryMapped {
     pub end_address: u64,
 }
 
+/// The type of the nodes, and how long their data are.
+const KIND: NodeKind = NodeKind {
+    full_type: (DeviceType::HARDWARE, DeviceSubType::HARDWARE_MEMORY_MAPPED),
+    size: 20,
+    rest: RestKind::Nothing,
+};
+
 impl<'a> TryFrom<DevicePathNode<'a>> for MemoryMapped {
     type Error = NodeConversionError;
 
     #[inline]
     fn try_from(node: DevicePathNode<'a>) -> Result<MemoryMapped, NodeConversionError> {
-        read_node(
-            &node,
-            DeviceType::HARDWARE,
-            DeviceSubType::HARDWARE_MEMORY_MAPPED,
-            20,
-            RestKind::Nothing,
-        )
+        read_node(&node, KIND)
     }
 }
 
@@ -59,7 +57,7 @@ impl<'a> NodeValue<'a> for MemoryMapped {
 impl BuildNode for MemoryMapped {
     #[inline]
     fn full_type(&self) -> (DeviceType, DeviceSubType) {
-        (DeviceType::HARDWARE, DeviceSubType::HARDWARE_MEMORY_MAPPED)
+        KIND.full_type
     }
 
     #[inline]
@@ -69,18 +67,6 @@ impl BuildNode for MemoryMapped {
             &self.start_address.to_le_bytes(),
             &self.end_address.to_le_bytes(),
         ]);
-        write_node(buffer, self, self.full_type(), &fields, Tail::Bytes(&[]))
-    }
-}
-
-impl WriteText for MemoryMapped {
-    #[inline]
-    fn write_text(
-        &self,
-        f: &mut fmt::Formatter<'_>,
-        _style: Style,
-    ) -> Option<fmt::Result> {
-        let (kind, start, end) = (self.memory_type.0, self.start_address, self.end_address);
-        Some(write!(f, "MemoryMapped(0x{kind:X},0x{start:X},0x{end:X})"))
+        write_node(buffer, KIND, self, &fields, Tail::Bytes(&[]))
     }
 }

@@ -1,11 +1,8 @@
 // @generated from proved source. It is not edited.
 
 use crate::formats::uefi_node::error::NodeConversionError;
-use crate::formats::uefi_node::read::{NodeValue, RestKind, read_node};
-use crate::formats::uefi_node::text::form::WriteText;
-use crate::formats::uefi_node::text::style::Style;
+use crate::formats::uefi_node::read::{NodeKind, NodeValue, RestKind, read_node};
 use crate::formats::uefi_node::write::{Tail, joined, write_node};
-use core::fmt;
 use crate::formats::uefi_path::build::{BuildError, BuildNode};
 use crate::formats::uefi_path::{DevicePathNode, DeviceSubType, DeviceType};
 
@@ -22,18 +19,19 @@ pub struct Pccard {
     pub function: u8,
 }
 
+/// The type of the nodes, and how long their data are.
+const KIND: NodeKind = NodeKind {
+    full_type: (DeviceType::HARDWARE, DeviceSubType::HARDWARE_PCCARD),
+    size: 1,
+    rest: RestKind::Nothing,
+};
+
 impl<'a> TryFrom<DevicePathNode<'a>> for Pccard {
     type Error = NodeConversionError;
 
     #[inline]
     fn try_from(node: DevicePathNode<'a>) -> Result<Pccard, NodeConversionError> {
-        read_node(
-            &node,
-            DeviceType::HARDWARE,
-            DeviceSubType::HARDWARE_PCCARD,
-            1,
-            RestKind::Nothing,
-        )
+        read_node(&node, KIND)
     }
 }
 
@@ -47,24 +45,12 @@ impl<'a> NodeValue<'a> for Pccard {
 impl BuildNode for Pccard {
     #[inline]
     fn full_type(&self) -> (DeviceType, DeviceSubType) {
-        (DeviceType::HARDWARE, DeviceSubType::HARDWARE_PCCARD)
+        KIND.full_type
     }
 
     #[inline]
     fn write(&self, buffer: &mut [u8]) -> Result<usize, BuildError> {
         let fields = joined::<1>(&[&self.function.to_le_bytes()]);
-        write_node(buffer, self, self.full_type(), &fields, Tail::Bytes(&[]))
-    }
-}
-
-impl WriteText for Pccard {
-    #[inline]
-    fn write_text(
-        &self,
-        f: &mut fmt::Formatter<'_>,
-        _style: Style,
-    ) -> Option<fmt::Result> {
-        let function = self.function;
-        Some(write!(f, "PcCard(0x{function:X})"))
+        write_node(buffer, KIND, self, &fields, Tail::Bytes(&[]))
     }
 }

@@ -1,11 +1,8 @@
 // @generated from proved source. It is not edited.
 
 use crate::formats::uefi_node::error::NodeConversionError;
-use crate::formats::uefi_node::read::{NodeValue, RestKind, read_node};
-use crate::formats::uefi_node::text::form::WriteText;
-use crate::formats::uefi_node::text::style::Style;
+use crate::formats::uefi_node::read::{NodeKind, NodeValue, RestKind, read_node};
 use crate::formats::uefi_node::write::{Tail, joined, write_node};
-use core::fmt;
 use crate::formats::uefi_path::build::{BuildError, BuildNode};
 use crate::formats::uefi_path::{DevicePathNode, DeviceSubType, DeviceType};
 
@@ -25,18 +22,19 @@ pub struct Pci {
     pub device: u8,
 }
 
+/// The type of the nodes, and how long their data are.
+const KIND: NodeKind = NodeKind {
+    full_type: (DeviceType::HARDWARE, DeviceSubType::HARDWARE_PCI),
+    size: 2,
+    rest: RestKind::Nothing,
+};
+
 impl<'a> TryFrom<DevicePathNode<'a>> for Pci {
     type Error = NodeConversionError;
 
     #[inline]
     fn try_from(node: DevicePathNode<'a>) -> Result<Pci, NodeConversionError> {
-        read_node(
-            &node,
-            DeviceType::HARDWARE,
-            DeviceSubType::HARDWARE_PCI,
-            2,
-            RestKind::Nothing,
-        )
+        read_node(&node, KIND)
     }
 }
 
@@ -53,24 +51,12 @@ impl<'a> NodeValue<'a> for Pci {
 impl BuildNode for Pci {
     #[inline]
     fn full_type(&self) -> (DeviceType, DeviceSubType) {
-        (DeviceType::HARDWARE, DeviceSubType::HARDWARE_PCI)
+        KIND.full_type
     }
 
     #[inline]
     fn write(&self, buffer: &mut [u8]) -> Result<usize, BuildError> {
         let fields = joined::<2>(&[&self.function.to_le_bytes(), &self.device.to_le_bytes()]);
-        write_node(buffer, self, self.full_type(), &fields, Tail::Bytes(&[]))
-    }
-}
-
-impl WriteText for Pci {
-    #[inline]
-    fn write_text(
-        &self,
-        f: &mut fmt::Formatter<'_>,
-        _style: Style,
-    ) -> Option<fmt::Result> {
-        let Pci { function, device } = *self;
-        Some(write!(f, "Pci(0x{device:X},0x{function:X})"))
+        write_node(buffer, KIND, self, &fields, Tail::Bytes(&[]))
     }
 }

@@ -1,11 +1,8 @@
 // @generated from proved source. It is not edited.
 
 use crate::formats::uefi_node::error::NodeConversionError;
-use crate::formats::uefi_node::read::{NodeValue, RestKind, read_node};
-use crate::formats::uefi_node::text::form::WriteText;
-use crate::formats::uefi_node::text::style::Style;
+use crate::formats::uefi_node::read::{NodeKind, NodeValue, RestKind, read_node};
 use crate::formats::uefi_node::write::{Tail, joined, write_node};
-use core::fmt;
 use crate::formats::uefi_base::little_endian::{u32_at, u64_at};
 use crate::formats::uefi_path::build::{BuildError, BuildNode};
 use crate::formats::uefi_path::{DevicePathNode, DeviceSubType, DeviceType};
@@ -29,18 +26,19 @@ pub struct CdRom {
     pub partition_size: u64,
 }
 
+/// The type of the nodes, and how long their data are.
+const KIND: NodeKind = NodeKind {
+    full_type: (DeviceType::MEDIA, DeviceSubType::MEDIA_CD_ROM),
+    size: 20,
+    rest: RestKind::Nothing,
+};
+
 impl<'a> TryFrom<DevicePathNode<'a>> for CdRom {
     type Error = NodeConversionError;
 
     #[inline]
     fn try_from(node: DevicePathNode<'a>) -> Result<CdRom, NodeConversionError> {
-        read_node(
-            &node,
-            DeviceType::MEDIA,
-            DeviceSubType::MEDIA_CD_ROM,
-            20,
-            RestKind::Nothing,
-        )
+        read_node(&node, KIND)
     }
 }
 
@@ -58,7 +56,7 @@ impl<'a> NodeValue<'a> for CdRom {
 impl BuildNode for CdRom {
     #[inline]
     fn full_type(&self) -> (DeviceType, DeviceSubType) {
-        (DeviceType::MEDIA, DeviceSubType::MEDIA_CD_ROM)
+        KIND.full_type
     }
 
     #[inline]
@@ -68,21 +66,6 @@ impl BuildNode for CdRom {
             &self.partition_start.to_le_bytes(),
             &self.partition_size.to_le_bytes(),
         ]);
-        write_node(buffer, self, self.full_type(), &fields, Tail::Bytes(&[]))
-    }
-}
-
-impl WriteText for CdRom {
-    #[inline]
-    fn write_text(
-        &self,
-        f: &mut fmt::Formatter<'_>,
-        style: Style,
-    ) -> Option<fmt::Result> {
-        let (entry, start, size) = (self.boot_entry, self.partition_start, self.partition_size);
-        if style.display_only {
-            return Some(write!(f, "CDROM(0x{entry:X})"));
-        }
-        Some(write!(f, "CDROM(0x{entry:X},0x{start:X},0x{size:X})"))
+        write_node(buffer, KIND, self, &fields, Tail::Bytes(&[]))
     }
 }

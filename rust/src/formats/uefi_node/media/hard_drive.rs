@@ -1,14 +1,9 @@
 // @generated from proved source. It is not edited.
 
 use crate::formats::uefi_node::error::NodeConversionError;
-use crate::formats::uefi_node::media::partition_signature::{PartitionSignature, are_zero};
-use crate::formats::uefi_node::read::{NodeValue, RestKind, bytes_at, read_node};
-use crate::formats::uefi_node::text::arguments::{HexBytes, UpperGuid};
-use crate::formats::uefi_node::text::form::WriteText;
-use crate::formats::uefi_node::text::style::Style;
+use crate::formats::uefi_node::media::partition_signature::PartitionSignature;
+use crate::formats::uefi_node::read::{NodeKind, NodeValue, RestKind, bytes_at, read_node};
 use crate::formats::uefi_node::write::{Tail, joined, write_node};
-use core::fmt;
-use crate::formats::uefi_base::Guid;
 use crate::formats::uefi_base::little_endian::{u32_at, u64_at};
 use crate::formats::uefi_path::build::{BuildError, BuildNode};
 use crate::formats::uefi_path::{DevicePathNode, DeviceSubType, DeviceType};
@@ -42,18 +37,19 @@ pub struct HardDrive {
     pub partition_format: PartitionFormat,
 }
 
+/// The type of the nodes, and how long their data are.
+const KIND: NodeKind = NodeKind {
+    full_type: (DeviceType::MEDIA, DeviceSubType::MEDIA_HARD_DRIVE),
+    size: 38,
+    rest: RestKind::Nothing,
+};
+
 impl<'a> TryFrom<DevicePathNode<'a>> for HardDrive {
     type Error = NodeConversionError;
 
     #[inline]
     fn try_from(node: DevicePathNode<'a>) -> Result<HardDrive, NodeConversionError> {
-        read_node(
-            &node,
-            DeviceType::MEDIA,
-            DeviceSubType::MEDIA_HARD_DRIVE,
-            38,
-            RestKind::Nothing,
-        )
+        read_node(&node, KIND)
     }
 }
 
@@ -73,7 +69,7 @@ impl<'a> NodeValue<'a> for HardDrive {
 impl BuildNode for HardDrive {
     #[inline]
     fn full_type(&self) -> (DeviceType, DeviceSubType) {
-        (DeviceType::MEDIA, DeviceSubType::MEDIA_HARD_DRIVE)
+        KIND.full_type
     }
 
     #[inline]
@@ -89,98 +85,8 @@ impl BuildNode for HardDrive {
             &self.partition_format.0.to_le_bytes(),
             &self.partition_signature.signature_type().to_le_bytes(),
         ]);
-        write_node(buffer, self, self.full_type(), &fields, Tail::Bytes(&[]))
+        write_node(buffer, KIND, self, &fields, Tail::Bytes(&[]))
     }
-}
-
-impl WriteText for HardDrive {
-    #[inline]
-    fn write_text(
-        &self,
-        f: &mut fmt::Formatter<'_>,
-        style: Style,
-    ) -> Option<fmt::Result> {
-        let (signature, format) = (self.partition_signature.to_bytes(), self.partition_format.0);
-        let kind = self.partition_signature.signature_type();
-        if kind == 1 {
-            let (_, after) = signature.split_at(4);
-            if format != 1 || !are_zero(after) {
-                return None;
-            }
-            return Some(write_mbr(f, self, style, signature));
-        }
-        if kind == 2 {
-            if format != 2 {
-                return None;
-            }
-            return Some(write_gpt(f, self, style, signature));
-        }
-        if format != 0 || !are_zero(&signature) {
-            return None;
-        }
-        Some(write_other(f, self, style, kind))
-    }
-}
-
-/// Writes the form of a drive with a master boot record.
-#[inline]
-fn write_mbr(
-    f: &mut fmt::Formatter<'_>,
-    drive: &HardDrive,
-    style: Style,
-    signature: [u8; 16],
-) -> fmt::Result {
-    let (number, start, size) = (
-        drive.partition_number,
-        drive.partition_start,
-        drive.partition_size,
-    );
-    let b = signature;
-    let reversed = [b[3], b[2], b[1], b[0]];
-    let signature = HexBytes(&reversed);
-    if style.display_only {
-        return write!(f, "HD({number},MBR,0x{signature})");
-    }
-    write!(f, "HD({number},MBR,0x{signature},0x{start:X},0x{size:X})")
-}
-
-/// Writes the form of a drive with a GUID partition table.
-#[inline]
-fn write_gpt(
-    f: &mut fmt::Formatter<'_>,
-    drive: &HardDrive,
-    style: Style,
-    signature: [u8; 16],
-) -> fmt::Result {
-    let (number, start, size) = (
-        drive.partition_number,
-        drive.partition_start,
-        drive.partition_size,
-    );
-    let signature = UpperGuid(Guid(signature));
-    if style.display_only {
-        return write!(f, "HD({number},GPT,{signature})");
-    }
-    write!(f, "HD({number},GPT,{signature},0x{start:X},0x{size:X})")
-}
-
-/// Writes the form of a drive without a signature.
-#[inline]
-fn write_other(
-    f: &mut fmt::Formatter<'_>,
-    drive: &HardDrive,
-    style: Style,
-    kind: u8,
-) -> fmt::Result {
-    let (number, start, size) = (
-        drive.partition_number,
-        drive.partition_start,
-        drive.partition_size,
-    );
-    if style.display_only {
-        return write!(f, "HD({number},{kind},0)");
-    }
-    write!(f, "HD({number},{kind},0,0x{start:X},0x{size:X})")
 }
 
 /// The format of a partition table (UEFI 2.10, 10.3.5.1).

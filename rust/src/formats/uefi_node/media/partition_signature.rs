@@ -104,6 +104,6 @@ fn is_defined(signature_type: u8, signature: &[u8]) -> bool {
 
 /// Returns whether all bytes are zero.
 #[inline]
-pub(crate) fn are_zero(bytes: &[u8]) -> bool {
+fn are_zero(bytes: &[u8]) -> bool {
     bytes.iter().all(|byte| *byte == 0)
 }

@@ -1,13 +1,8 @@
 // @generated from proved source. It is not edited.
 
 use crate::formats::uefi_node::error::NodeConversionError;
-use crate::formats::uefi_node::read::{NodeValue, RestKind, read_node};
-use crate::formats::uefi_node::text::arguments::UpperGuid;
-use crate::formats::uefi_node::text::form::WriteText;
-use crate::formats::uefi_node::text::style::Style;
+use crate::formats::uefi_node::read::{NodeKind, NodeValue, RestKind, read_node};
 use crate::formats::uefi_node::write::{Tail, write_node};
-use core::fmt;
-use crate::formats::uefi_base::Guid;
 use crate::formats::uefi_path::build::{BuildError, BuildNode};
 use crate::formats::uefi_path::{DevicePathNode, DeviceSubType, DeviceType};
 
@@ -32,18 +27,19 @@ impl core::fmt::Debug for PiwgFirmwareVolume<'_> {
     }
 }
 
+/// The type of the nodes, and how long their data are.
+const KIND: NodeKind = NodeKind {
+    full_type: (DeviceType::MEDIA, DeviceSubType::MEDIA_PIWG_FIRMWARE_VOLUME),
+    size: 0,
+    rest: RestKind::Bytes,
+};
+
 impl<'a> TryFrom<DevicePathNode<'a>> for PiwgFirmwareVolume<'a> {
     type Error = NodeConversionError;
 
     #[inline]
     fn try_from(node: DevicePathNode<'a>) -> Result<PiwgFirmwareVolume<'a>, NodeConversionError> {
-        read_node(
-            &node,
-            DeviceType::MEDIA,
-            DeviceSubType::MEDIA_PIWG_FIRMWARE_VOLUME,
-            0,
-            RestKind::Bytes,
-        )
+        read_node(&node, KIND)
     }
 }
 
@@ -57,26 +53,11 @@ impl<'a> NodeValue<'a> for PiwgFirmwareVolume<'a> {
 impl BuildNode for PiwgFirmwareVolume<'_> {
     #[inline]
     fn full_type(&self) -> (DeviceType, DeviceSubType) {
-        (DeviceType::MEDIA, DeviceSubType::MEDIA_PIWG_FIRMWARE_VOLUME)
+        KIND.full_type
     }
 
     #[inline]
     fn write(&self, buffer: &mut [u8]) -> Result<usize, BuildError> {
-        write_node(buffer, self, self.full_type(), &[], Tail::Bytes(self.data))
-    }
-}
-
-impl WriteText for PiwgFirmwareVolume<'_> {
-    #[inline]
-    fn write_text(
-        &self,
-        f: &mut fmt::Formatter<'_>,
-        _style: Style,
-    ) -> Option<fmt::Result> {
-        let Ok(bytes) = <[u8; 16]>::try_from(self.data) else {
-            return None;
-        };
-        let guid = UpperGuid(Guid(bytes));
-        Some(write!(f, "Fv({guid})"))
+        write_node(buffer, KIND, self, &[], Tail::Bytes(self.data))
     }
 }

@@ -1,12 +1,8 @@
 // @generated from proved source. It is not edited.
 
 use crate::formats::uefi_node::error::NodeConversionError;
-use crate::formats::uefi_node::read::{NodeValue, RestKind, bytes_at, read_node};
-use crate::formats::uefi_node::text::arguments::UpperGuid;
-use crate::formats::uefi_node::text::form::WriteText;
-use crate::formats::uefi_node::text::style::Style;
+use crate::formats::uefi_node::read::{NodeKind, NodeValue, RestKind, bytes_at, read_node};
 use crate::formats::uefi_node::write::{Tail, joined, write_node};
-use core::fmt;
 use crate::formats::uefi_base::Guid;
 use crate::formats::uefi_path::build::{BuildError, BuildNode};
 use crate::formats::uefi_path::{DevicePathNode, DeviceSubType, DeviceType};
@@ -24,18 +20,19 @@ pub struct Protocol {
     pub protocol_guid: Guid,
 }
 
+/// The type of the nodes, and how long their data are.
+const KIND: NodeKind = NodeKind {
+    full_type: (DeviceType::MEDIA, DeviceSubType::MEDIA_PROTOCOL),
+    size: 16,
+    rest: RestKind::Nothing,
+};
+
 impl<'a> TryFrom<DevicePathNode<'a>> for Protocol {
     type Error = NodeConversionError;
 
     #[inline]
     fn try_from(node: DevicePathNode<'a>) -> Result<Protocol, NodeConversionError> {
-        read_node(
-            &node,
-            DeviceType::MEDIA,
-            DeviceSubType::MEDIA_PROTOCOL,
-            16,
-            RestKind::Nothing,
-        )
+        read_node(&node, KIND)
     }
 }
 
@@ -51,24 +48,12 @@ impl<'a> NodeValue<'a> for Protocol {
 impl BuildNode for Protocol {
     #[inline]
     fn full_type(&self) -> (DeviceType, DeviceSubType) {
-        (DeviceType::MEDIA, DeviceSubType::MEDIA_PROTOCOL)
+        KIND.full_type
     }
 
     #[inline]
     fn write(&self, buffer: &mut [u8]) -> Result<usize, BuildError> {
         let fields = joined::<16>(&[&self.protocol_guid.to_bytes()]);
-        write_node(buffer, self, self.full_type(), &fields, Tail::Bytes(&[]))
-    }
-}
-
-impl WriteText for Protocol {
-    #[inline]
-    fn write_text(
-        &self,
-        f: &mut fmt::Formatter<'_>,
-        _style: Style,
-    ) -> Option<fmt::Result> {
-        let guid = UpperGuid(self.protocol_guid);
-        Some(write!(f, "Media({guid})"))
+        write_node(buffer, KIND, self, &fields, Tail::Bytes(&[]))
     }
 }

@@ -2,12 +2,8 @@
 
 use crate::formats::uefi_node::error::NodeConversionError;
 use crate::formats::uefi_node::media::ram_disk_type::RamDiskType;
-use crate::formats::uefi_node::read::{NodeValue, RestKind, bytes_at, read_node};
-use crate::formats::uefi_node::text::arguments::UpperGuid;
-use crate::formats::uefi_node::text::form::WriteText;
-use crate::formats::uefi_node::text::style::Style;
+use crate::formats::uefi_node::read::{NodeKind, NodeValue, RestKind, bytes_at, read_node};
 use crate::formats::uefi_node::write::{Tail, joined, write_node};
-use core::fmt;
 use crate::formats::uefi_base::Guid;
 use crate::formats::uefi_base::little_endian::{u16_at, u64_at};
 use crate::formats::uefi_path::build::{BuildError, BuildNode};
@@ -35,18 +31,19 @@ pub struct RamDisk {
     pub disk_instance: u16,
 }
 
+/// The type of the nodes, and how long their data are.
+const KIND: NodeKind = NodeKind {
+    full_type: (DeviceType::MEDIA, DeviceSubType::MEDIA_RAM_DISK),
+    size: 34,
+    rest: RestKind::Nothing,
+};
+
 impl<'a> TryFrom<DevicePathNode<'a>> for RamDisk {
     type Error = NodeConversionError;
 
     #[inline]
     fn try_from(node: DevicePathNode<'a>) -> Result<RamDisk, NodeConversionError> {
-        read_node(
-            &node,
-            DeviceType::MEDIA,
-            DeviceSubType::MEDIA_RAM_DISK,
-            34,
-            RestKind::Nothing,
-        )
+        read_node(&node, KIND)
     }
 }
 
@@ -65,7 +62,7 @@ impl<'a> NodeValue<'a> for RamDisk {
 impl BuildNode for RamDisk {
     #[inline]
     fn full_type(&self) -> (DeviceType, DeviceSubType) {
-        (DeviceType::MEDIA, DeviceSubType::MEDIA_RAM_DISK)
+        KIND.full_type
     }
 
     #[inline]
@@ -76,41 +73,6 @@ impl BuildNode for RamDisk {
             &self.disk_type.0.to_bytes(),
             &self.disk_instance.to_le_bytes(),
         ]);
-        write_node(buffer, self, self.full_type(), &fields, Tail::Bytes(&[]))
+        write_node(buffer, KIND, self, &fields, Tail::Bytes(&[]))
     }
-}
-
-impl WriteText for RamDisk {
-    #[inline]
-    fn write_text(
-        &self,
-        f: &mut fmt::Formatter<'_>,
-        _style: Style,
-    ) -> Option<fmt::Result> {
-        let (start, end) = (self.starting_address, self.ending_address);
-        let instance = self.disk_instance;
-        if let Some(name) = own_name(self.disk_type) {
-            return Some(write!(f, "{name}(0x{start:X},0x{end:X},{instance})"));
-        }
-        let guid = UpperGuid(self.disk_type.0);
-        Some(write!(f, "RamDisk(0x{start:X},0x{end:X},{instance},{guid})"))
-    }
-}
-
-/// Returns the name of the form for disks of a type that has its own.
-#[inline]
-fn own_name(disk_type: RamDiskType) -> Option<&'static str> {
-    if disk_type == RamDiskType::VIRTUAL_DISK {
-        return Some("VirtualDisk");
-    }
-    if disk_type == RamDiskType::VIRTUAL_CD {
-        return Some("VirtualCD");
-    }
-    if disk_type == RamDiskType::PERSISTENT_VIRTUAL_DISK {
-        return Some("PersistentVirtualDisk");
-    }
-    if disk_type == RamDiskType::PERSISTENT_VIRTUAL_CD {
-        return Some("PersistentVirtualCD");
-    }
-    None
 }

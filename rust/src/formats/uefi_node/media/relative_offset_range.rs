@@ -1,11 +1,8 @@
 // @generated from proved source. It is not edited.
 
 use crate::formats::uefi_node::error::NodeConversionError;
-use crate::formats::uefi_node::read::{NodeValue, RestKind, read_node};
-use crate::formats::uefi_node::text::form::WriteText;
-use crate::formats::uefi_node::text::style::Style;
+use crate::formats::uefi_node::read::{NodeKind, NodeValue, RestKind, read_node};
 use crate::formats::uefi_node::write::{Tail, joined, write_node};
-use core::fmt;
 use crate::formats::uefi_base::little_endian::{u32_at, u64_at};
 use crate::formats::uefi_path::build::{BuildError, BuildNode};
 use crate::formats::uefi_path::{DevicePathNode, DeviceSubType, DeviceType};
@@ -29,18 +26,22 @@ pub struct RelativeOffsetRange {
     pub ending_offset: u64,
 }
 
+/// The type of the nodes, and how long their data are.
+const KIND: NodeKind = NodeKind {
+    full_type: (
+        DeviceType::MEDIA,
+        DeviceSubType::MEDIA_RELATIVE_OFFSET_RANGE,
+    ),
+    size: 20,
+    rest: RestKind::Nothing,
+};
+
 impl<'a> TryFrom<DevicePathNode<'a>> for RelativeOffsetRange {
     type Error = NodeConversionError;
 
     #[inline]
     fn try_from(node: DevicePathNode<'a>) -> Result<RelativeOffsetRange, NodeConversionError> {
-        read_node(
-            &node,
-            DeviceType::MEDIA,
-            DeviceSubType::MEDIA_RELATIVE_OFFSET_RANGE,
-            20,
-            RestKind::Nothing,
-        )
+        read_node(&node, KIND)
     }
 }
 
@@ -58,10 +59,7 @@ impl<'a> NodeValue<'a> for RelativeOffsetRange {
 impl BuildNode for RelativeOffsetRange {
     #[inline]
     fn full_type(&self) -> (DeviceType, DeviceSubType) {
-        (
-            DeviceType::MEDIA,
-            DeviceSubType::MEDIA_RELATIVE_OFFSET_RANGE,
-        )
+        KIND.full_type
     }
 
     #[inline]
@@ -71,21 +69,6 @@ impl BuildNode for RelativeOffsetRange {
             &self.starting_offset.to_le_bytes(),
             &self.ending_offset.to_le_bytes(),
         ]);
-        write_node(buffer, self, self.full_type(), &fields, Tail::Bytes(&[]))
-    }
-}
-
-impl WriteText for RelativeOffsetRange {
-    #[inline]
-    fn write_text(
-        &self,
-        f: &mut fmt::Formatter<'_>,
-        _style: Style,
-    ) -> Option<fmt::Result> {
-        if self.reserved != 0 {
-            return None;
-        }
-        let (start, end) = (self.starting_offset, self.ending_offset);
-        Some(write!(f, "Offset(0x{start:X},0x{end:X})"))
+        write_node(buffer, KIND, self, &fields, Tail::Bytes(&[]))
     }
 }

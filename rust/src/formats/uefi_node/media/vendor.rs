@@ -1,12 +1,8 @@
 // @generated from proved source. It is not edited.
 
 use crate::formats::uefi_node::error::NodeConversionError;
-use crate::formats::uefi_node::read::{NodeValue, RestKind, bytes_at, read_node};
-use crate::formats::uefi_node::text::arguments::write_vendor;
-use crate::formats::uefi_node::text::form::WriteText;
-use crate::formats::uefi_node::text::style::Style;
+use crate::formats::uefi_node::read::{NodeKind, NodeValue, RestKind, bytes_at, read_node};
 use crate::formats::uefi_node::write::{Tail, joined, write_node};
-use core::fmt;
 use crate::formats::uefi_base::Guid;
 use crate::formats::uefi_path::build::{BuildError, BuildNode};
 use crate::formats::uefi_path::{DevicePathNode, DeviceSubType, DeviceType};
@@ -36,18 +32,19 @@ impl core::fmt::Debug for Vendor<'_> {
     }
 }
 
+/// The type of the nodes, and how long their data are.
+const KIND: NodeKind = NodeKind {
+    full_type: (DeviceType::MEDIA, DeviceSubType::MEDIA_VENDOR),
+    size: 16,
+    rest: RestKind::Bytes,
+};
+
 impl<'a> TryFrom<DevicePathNode<'a>> for Vendor<'a> {
     type Error = NodeConversionError;
 
     #[inline]
     fn try_from(node: DevicePathNode<'a>) -> Result<Vendor<'a>, NodeConversionError> {
-        read_node(
-            &node,
-            DeviceType::MEDIA,
-            DeviceSubType::MEDIA_VENDOR,
-            16,
-            RestKind::Bytes,
-        )
+        read_node(&node, KIND)
     }
 }
 
@@ -65,7 +62,7 @@ impl<'a> NodeValue<'a> for Vendor<'a> {
 impl BuildNode for Vendor<'_> {
     #[inline]
     fn full_type(&self) -> (DeviceType, DeviceSubType) {
-        (DeviceType::MEDIA, DeviceSubType::MEDIA_VENDOR)
+        KIND.full_type
     }
 
     #[inline]
@@ -73,22 +70,10 @@ impl BuildNode for Vendor<'_> {
         let fields = joined::<16>(&[&self.vendor_guid.to_bytes()]);
         write_node(
             buffer,
+            KIND,
             self,
-            self.full_type(),
             &fields,
             Tail::Bytes(self.vendor_defined_data),
         )
-    }
-}
-
-impl WriteText for Vendor<'_> {
-    #[inline]
-    fn write_text(
-        &self,
-        f: &mut fmt::Formatter<'_>,
-        _style: Style,
-    ) -> Option<fmt::Result> {
-        let (guid, data) = (self.vendor_guid, self.vendor_defined_data);
-        Some(write_vendor(f, "VenMedia", guid, data))
     }
 }

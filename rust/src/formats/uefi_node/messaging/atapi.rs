@@ -1,11 +1,8 @@
 // @generated from proved source. It is not edited.
 
 use crate::formats::uefi_node::error::NodeConversionError;
-use crate::formats::uefi_node::read::{NodeValue, RestKind, read_node};
-use crate::formats::uefi_node::text::form::WriteText;
-use crate::formats::uefi_node::text::style::Style;
+use crate::formats::uefi_node::read::{NodeKind, NodeValue, RestKind, read_node};
 use crate::formats::uefi_node::write::{Tail, joined, write_node};
-use core::fmt;
 use crate::formats::uefi_base::little_endian::u16_at;
 use crate::formats::uefi_path::build::{BuildError, BuildNode};
 use crate::formats::uefi_path::{DevicePathNode, DeviceSubType, DeviceType};
@@ -29,18 +26,19 @@ pub struct Atapi {
     pub logical_unit_number: u16,
 }
 
+/// The type of the nodes, and how long their data are.
+const KIND: NodeKind = NodeKind {
+    full_type: (DeviceType::MESSAGING, DeviceSubType::MESSAGING_ATAPI),
+    size: 4,
+    rest: RestKind::Nothing,
+};
+
 impl<'a> TryFrom<DevicePathNode<'a>> for Atapi {
     type Error = NodeConversionError;
 
     #[inline]
     fn try_from(node: DevicePathNode<'a>) -> Result<Atapi, NodeConversionError> {
-        read_node(
-            &node,
-            DeviceType::MESSAGING,
-            DeviceSubType::MESSAGING_ATAPI,
-            4,
-            RestKind::Nothing,
-        )
+        read_node(&node, KIND)
     }
 }
 
@@ -58,7 +56,7 @@ impl<'a> NodeValue<'a> for Atapi {
 impl BuildNode for Atapi {
     #[inline]
     fn full_type(&self) -> (DeviceType, DeviceSubType) {
-        (DeviceType::MESSAGING, DeviceSubType::MESSAGING_ATAPI)
+        KIND.full_type
     }
 
     #[inline]
@@ -68,40 +66,8 @@ impl BuildNode for Atapi {
             &self.master_slave.0.to_le_bytes(),
             &self.logical_unit_number.to_le_bytes(),
         ]);
-        write_node(buffer, self, self.full_type(), &fields, Tail::Bytes(&[]))
+        write_node(buffer, KIND, self, &fields, Tail::Bytes(&[]))
     }
-}
-
-impl WriteText for Atapi {
-    #[inline]
-    fn write_text(
-        &self,
-        f: &mut fmt::Formatter<'_>,
-        style: Style,
-    ) -> Option<fmt::Result> {
-        let (channel, drive) = (self.primary_secondary.0, self.master_slave.0);
-        let lun = self.logical_unit_number;
-        if channel > 1 || drive > 1 {
-            return None;
-        }
-        if style.display_only {
-            return Some(write!(f, "Ata(0x{lun:X})"));
-        }
-        let (channel, drive) = (channel_name(channel), drive_name(drive));
-        Some(write!(f, "Ata({channel},{drive},0x{lun:X})"))
-    }
-}
-
-/// Returns the name of a channel.
-#[inline]
-fn channel_name(channel: u8) -> &'static str {
-    if channel == 0 { "Primary" } else { "Secondary" }
-}
-
-/// Returns the name of a device of a channel.
-#[inline]
-fn drive_name(drive: u8) -> &'static str {
-    if drive == 0 { "Master" } else { "Slave" }
 }
 
 /// The channel of an ATAPI device (UEFI 2.10, 10.3.4.1).

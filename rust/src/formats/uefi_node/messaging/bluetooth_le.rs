@@ -1,12 +1,8 @@
 // @generated from proved source. It is not edited.
 
 use crate::formats::uefi_node::error::NodeConversionError;
-use crate::formats::uefi_node::read::{NodeValue, RestKind, bytes_at, read_node};
-use crate::formats::uefi_node::text::arguments::HexBytes;
-use crate::formats::uefi_node::text::form::WriteText;
-use crate::formats::uefi_node::text::style::Style;
+use crate::formats::uefi_node::read::{NodeKind, NodeValue, RestKind, bytes_at, read_node};
 use crate::formats::uefi_node::write::{Tail, joined, write_node};
-use core::fmt;
 use crate::formats::uefi_path::build::{BuildError, BuildNode};
 use crate::formats::uefi_path::{DevicePathNode, DeviceSubType, DeviceType};
 
@@ -35,18 +31,19 @@ impl core::fmt::Debug for BluetoothLe {
     }
 }
 
+/// The type of the nodes, and how long their data are.
+const KIND: NodeKind = NodeKind {
+    full_type: (DeviceType::MESSAGING, DeviceSubType::MESSAGING_BLUETOOTH_LE),
+    size: 7,
+    rest: RestKind::Nothing,
+};
+
 impl<'a> TryFrom<DevicePathNode<'a>> for BluetoothLe {
     type Error = NodeConversionError;
 
     #[inline]
     fn try_from(node: DevicePathNode<'a>) -> Result<BluetoothLe, NodeConversionError> {
-        read_node(
-            &node,
-            DeviceType::MESSAGING,
-            DeviceSubType::MESSAGING_BLUETOOTH_LE,
-            7,
-            RestKind::Nothing,
-        )
+        read_node(&node, KIND)
     }
 }
 
@@ -63,30 +60,13 @@ impl<'a> NodeValue<'a> for BluetoothLe {
 impl BuildNode for BluetoothLe {
     #[inline]
     fn full_type(&self) -> (DeviceType, DeviceSubType) {
-        (DeviceType::MESSAGING, DeviceSubType::MESSAGING_BLUETOOTH_LE)
+        KIND.full_type
     }
 
     #[inline]
     fn write(&self, buffer: &mut [u8]) -> Result<usize, BuildError> {
         let fields = joined::<7>(&[&self.device_address, &self.address_type.0.to_le_bytes()]);
-        write_node(buffer, self, self.full_type(), &fields, Tail::Bytes(&[]))
-    }
-}
-
-impl WriteText for BluetoothLe {
-    #[inline]
-    fn write_text(
-        &self,
-        f: &mut fmt::Formatter<'_>,
-        _style: Style,
-    ) -> Option<fmt::Result> {
-        let address_type = [self.address_type.0];
-        Some(write!(
-            f,
-            "BluetoothLE({},0x{})",
-            HexBytes(&self.device_address),
-            HexBytes(&address_type),
-        ))
+        write_node(buffer, KIND, self, &fields, Tail::Bytes(&[]))
     }
 }
 

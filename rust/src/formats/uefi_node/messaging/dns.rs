@@ -1,14 +1,9 @@
 // @generated from proved source. It is not edited.
 
 use crate::formats::uefi_node::error::NodeConversionError;
-use crate::formats::uefi_node::media::partition_signature::are_zero;
 use crate::formats::uefi_node::messaging::dns_addresses::DnsAddresses;
-use crate::formats::uefi_node::read::{NodeValue, RestKind, bytes_at, read_node};
-use crate::formats::uefi_node::text::arguments::{Ipv4Text, Ipv6Text};
-use crate::formats::uefi_node::text::form::WriteText;
-use crate::formats::uefi_node::text::style::Style;
+use crate::formats::uefi_node::read::{NodeKind, NodeValue, RestKind, read_node};
 use crate::formats::uefi_node::write::{Tail, joined, write_node};
-use core::fmt;
 use crate::formats::uefi_path::build::{BuildError, BuildNode};
 use crate::formats::uefi_path::{DevicePathNode, DeviceSubType, DeviceType};
 
@@ -28,18 +23,19 @@ pub struct Dns<'a> {
     pub addresses: DnsAddresses<'a>,
 }
 
+/// The type of the nodes, and how long their data are.
+const KIND: NodeKind = NodeKind {
+    full_type: (DeviceType::MESSAGING, DeviceSubType::MESSAGING_DNS),
+    size: 1,
+    rest: RestKind::Addresses,
+};
+
 impl<'a> TryFrom<DevicePathNode<'a>> for Dns<'a> {
     type Error = NodeConversionError;
 
     #[inline]
     fn try_from(node: DevicePathNode<'a>) -> Result<Dns<'a>, NodeConversionError> {
-        read_node(
-            &node,
-            DeviceType::MESSAGING,
-            DeviceSubType::MESSAGING_DNS,
-            1,
-            RestKind::Addresses,
-        )
+        read_node(&node, KIND)
     }
 }
 
@@ -57,7 +53,7 @@ impl<'a> NodeValue<'a> for Dns<'a> {
 impl BuildNode for Dns<'_> {
     #[inline]
     fn full_type(&self) -> (DeviceType, DeviceSubType) {
-        (DeviceType::MESSAGING, DeviceSubType::MESSAGING_DNS)
+        KIND.full_type
     }
 
     #[inline]
@@ -65,72 +61,11 @@ impl BuildNode for Dns<'_> {
         let fields = joined::<1>(&[&self.address_type.0.to_le_bytes()]);
         write_node(
             buffer,
+            KIND,
             self,
-            self.full_type(),
             &fields,
             Tail::Bytes(self.addresses.as_bytes()),
         )
-    }
-}
-
-impl WriteText for Dns<'_> {
-    #[inline]
-    fn write_text(
-        &self,
-        f: &mut fmt::Formatter<'_>,
-        _style: Style,
-    ) -> Option<fmt::Result> {
-        let (address_type, bytes) = (self.address_type.0, self.addresses.as_bytes());
-        if bytes.is_empty() || !are_servers(address_type, bytes) {
-            return None;
-        }
-        Some(write_servers(f, address_type, bytes))
-    }
-}
-
-/// Returns whether the addresses in `bytes`, 16 bytes each, are of a type.
-#[inline]
-fn are_servers(address_type: u8, bytes: &[u8]) -> bool {
-    (0..bytes.len() / 16).all(|index| is_server(address_type, bytes, index))
-}
-
-/// Returns whether the address at an index is of a type. An IPv4 address has zeros after it.
-#[inline]
-fn is_server(address_type: u8, bytes: &[u8], index: usize) -> bool {
-    match address_type {
-        0 => are_zero(&bytes[16 * index + 4..16 * index + 16]),
-        address_type => address_type == 1,
-    }
-}
-
-/// Writes the form of addresses, of which there is one.
-#[inline]
-fn write_servers(
-    f: &mut fmt::Formatter<'_>,
-    address_type: u8,
-    bytes: &[u8],
-) -> fmt::Result {
-    f.write_str("Dns(")?;
-    write_server(f, address_type, bytes, 0)?;
-    for index in 1..bytes.len() / 16 {
-        f.write_str(",")?;
-        write_server(f, address_type, bytes, index)?;
-    }
-    f.write_str(")")
-}
-
-/// Writes the address at an index.
-#[inline]
-fn write_server(
-    f: &mut fmt::Formatter<'_>,
-    address_type: u8,
-    bytes: &[u8],
-    index: usize,
-) -> fmt::Result {
-    if address_type == 0 {
-        write!(f, "{}", Ipv4Text(bytes_at(bytes, 16 * index)))
-    } else {
-        write!(f, "{}", Ipv6Text(bytes_at(bytes, 16 * index)))
     }
 }
 

@@ -1,11 +1,8 @@
 // @generated from proved source. It is not edited.
 
 use crate::formats::uefi_node::error::NodeConversionError;
-use crate::formats::uefi_node::read::{NodeValue, RestKind, read_node};
-use crate::formats::uefi_node::text::form::WriteText;
-use crate::formats::uefi_node::text::style::Style;
+use crate::formats::uefi_node::read::{NodeKind, NodeValue, RestKind, read_node};
 use crate::formats::uefi_node::write::{Tail, joined, write_node};
-use core::fmt;
 use crate::formats::uefi_base::little_endian::{u32_at, u64_at};
 use crate::formats::uefi_path::build::{BuildError, BuildNode};
 use crate::formats::uefi_path::{DevicePathNode, DeviceSubType, DeviceType};
@@ -29,18 +26,22 @@ pub struct FibreChannel {
     pub logical_unit_number: u64,
 }
 
+/// The type of the nodes, and how long their data are.
+const KIND: NodeKind = NodeKind {
+    full_type: (
+        DeviceType::MESSAGING,
+        DeviceSubType::MESSAGING_FIBRE_CHANNEL,
+    ),
+    size: 20,
+    rest: RestKind::Nothing,
+};
+
 impl<'a> TryFrom<DevicePathNode<'a>> for FibreChannel {
     type Error = NodeConversionError;
 
     #[inline]
     fn try_from(node: DevicePathNode<'a>) -> Result<FibreChannel, NodeConversionError> {
-        read_node(
-            &node,
-            DeviceType::MESSAGING,
-            DeviceSubType::MESSAGING_FIBRE_CHANNEL,
-            20,
-            RestKind::Nothing,
-        )
+        read_node(&node, KIND)
     }
 }
 
@@ -58,10 +59,7 @@ impl<'a> NodeValue<'a> for FibreChannel {
 impl BuildNode for FibreChannel {
     #[inline]
     fn full_type(&self) -> (DeviceType, DeviceSubType) {
-        (
-            DeviceType::MESSAGING,
-            DeviceSubType::MESSAGING_FIBRE_CHANNEL,
-        )
+        KIND.full_type
     }
 
     #[inline]
@@ -71,21 +69,6 @@ impl BuildNode for FibreChannel {
             &self.world_wide_name.to_le_bytes(),
             &self.logical_unit_number.to_le_bytes(),
         ]);
-        write_node(buffer, self, self.full_type(), &fields, Tail::Bytes(&[]))
-    }
-}
-
-impl WriteText for FibreChannel {
-    #[inline]
-    fn write_text(
-        &self,
-        f: &mut fmt::Formatter<'_>,
-        _style: Style,
-    ) -> Option<fmt::Result> {
-        if self.reserved != 0 {
-            return None;
-        }
-        let (name, lun) = (self.world_wide_name, self.logical_unit_number);
-        Some(write!(f, "Fibre(0x{name:X},0x{lun:X})"))
+        write_node(buffer, KIND, self, &fields, Tail::Bytes(&[]))
     }
 }

@@ -1,12 +1,8 @@
 // @generated from proved source. It is not edited.
 
 use crate::formats::uefi_node::error::NodeConversionError;
-use crate::formats::uefi_node::read::{NodeValue, RestKind, bytes_at, read_node};
-use crate::formats::uefi_node::text::arguments::HexBytes;
-use crate::formats::uefi_node::text::form::WriteText;
-use crate::formats::uefi_node::text::style::Style;
+use crate::formats::uefi_node::read::{NodeKind, NodeValue, RestKind, bytes_at, read_node};
 use crate::formats::uefi_node::write::{Tail, joined, write_node};
-use core::fmt;
 use crate::formats::uefi_base::little_endian::u32_at;
 use crate::formats::uefi_path::build::{BuildError, BuildNode};
 use crate::formats::uefi_path::{DevicePathNode, DeviceSubType, DeviceType};
@@ -40,18 +36,22 @@ impl core::fmt::Debug for FibreChannelEx {
     }
 }
 
+/// The type of the nodes, and how long their data are.
+const KIND: NodeKind = NodeKind {
+    full_type: (
+        DeviceType::MESSAGING,
+        DeviceSubType::MESSAGING_FIBRE_CHANNEL_EX,
+    ),
+    size: 20,
+    rest: RestKind::Nothing,
+};
+
 impl<'a> TryFrom<DevicePathNode<'a>> for FibreChannelEx {
     type Error = NodeConversionError;
 
     #[inline]
     fn try_from(node: DevicePathNode<'a>) -> Result<FibreChannelEx, NodeConversionError> {
-        read_node(
-            &node,
-            DeviceType::MESSAGING,
-            DeviceSubType::MESSAGING_FIBRE_CHANNEL_EX,
-            20,
-            RestKind::Nothing,
-        )
+        read_node(&node, KIND)
     }
 }
 
@@ -69,10 +69,7 @@ impl<'a> NodeValue<'a> for FibreChannelEx {
 impl BuildNode for FibreChannelEx {
     #[inline]
     fn full_type(&self) -> (DeviceType, DeviceSubType) {
-        (
-            DeviceType::MESSAGING,
-            DeviceSubType::MESSAGING_FIBRE_CHANNEL_EX,
-        )
+        KIND.full_type
     }
 
     #[inline]
@@ -82,24 +79,6 @@ impl BuildNode for FibreChannelEx {
             &self.world_wide_name,
             &self.logical_unit_number,
         ]);
-        write_node(buffer, self, self.full_type(), &fields, Tail::Bytes(&[]))
-    }
-}
-
-impl WriteText for FibreChannelEx {
-    #[inline]
-    fn write_text(
-        &self,
-        f: &mut fmt::Formatter<'_>,
-        _style: Style,
-    ) -> Option<fmt::Result> {
-        if self.reserved != 0 {
-            return None;
-        }
-        let (name, lun) = (
-            HexBytes(&self.world_wide_name),
-            HexBytes(&self.logical_unit_number),
-        );
-        Some(write!(f, "FibreEx(0x{name},0x{lun})"))
+        write_node(buffer, KIND, self, &fields, Tail::Bytes(&[]))
     }
 }

@@ -2,13 +2,8 @@
 
 use crate::formats::uefi_node::error::NodeConversionError;
 use crate::formats::uefi_node::messaging::infiniband_resource_flags::InfinibandResourceFlags;
-use crate::formats::uefi_node::read::{NodeValue, RestKind, bytes_at, read_node};
-use crate::formats::uefi_node::text::arguments::UpperGuid;
-use crate::formats::uefi_node::text::form::WriteText;
-use crate::formats::uefi_node::text::style::Style;
+use crate::formats::uefi_node::read::{NodeKind, NodeValue, RestKind, bytes_at, read_node};
 use crate::formats::uefi_node::write::{Tail, joined, write_node};
-use core::fmt;
-use crate::formats::uefi_base::Guid;
 use crate::formats::uefi_base::little_endian::{u32_at, u64_at};
 use crate::formats::uefi_path::build::{BuildError, BuildNode};
 use crate::formats::uefi_path::{DevicePathNode, DeviceSubType, DeviceType};
@@ -50,18 +45,19 @@ impl core::fmt::Debug for Infiniband {
     }
 }
 
+/// The type of the nodes, and how long their data are.
+const KIND: NodeKind = NodeKind {
+    full_type: (DeviceType::MESSAGING, DeviceSubType::MESSAGING_INFINIBAND),
+    size: 44,
+    rest: RestKind::Nothing,
+};
+
 impl<'a> TryFrom<DevicePathNode<'a>> for Infiniband {
     type Error = NodeConversionError;
 
     #[inline]
     fn try_from(node: DevicePathNode<'a>) -> Result<Infiniband, NodeConversionError> {
-        read_node(
-            &node,
-            DeviceType::MESSAGING,
-            DeviceSubType::MESSAGING_INFINIBAND,
-            44,
-            RestKind::Nothing,
-        )
+        read_node(&node, KIND)
     }
 }
 
@@ -81,7 +77,7 @@ impl<'a> NodeValue<'a> for Infiniband {
 impl BuildNode for Infiniband {
     #[inline]
     fn full_type(&self) -> (DeviceType, DeviceSubType) {
-        (DeviceType::MESSAGING, DeviceSubType::MESSAGING_INFINIBAND)
+        KIND.full_type
     }
 
     #[inline]
@@ -93,23 +89,6 @@ impl BuildNode for Infiniband {
             &self.target_port_id.to_le_bytes(),
             &self.device_id.to_le_bytes(),
         ]);
-        write_node(buffer, self, self.full_type(), &fields, Tail::Bytes(&[]))
-    }
-}
-
-impl WriteText for Infiniband {
-    #[inline]
-    fn write_text(
-        &self,
-        f: &mut fmt::Formatter<'_>,
-        _style: Style,
-    ) -> Option<fmt::Result> {
-        let (flags, port_gid) = (self.resource_flags.bits(), UpperGuid(Guid(self.port_gid)));
-        let (controller, target) = (self.ioc_guid_or_service_id, self.target_port_id);
-        let device = self.device_id;
-        Some(write!(
-            f,
-            "Infiniband(0x{flags:X},{port_gid},0x{controller:X},0x{target:X},0x{device:X})",
-        ))
+        write_node(buffer, KIND, self, &fields, Tail::Bytes(&[]))
     }
 }

@@ -1,12 +1,8 @@
 // @generated from proved source. It is not edited.
 
 use crate::formats::uefi_node::error::NodeConversionError;
-use crate::formats::uefi_node::read::{NodeValue, RestKind, bytes_at, read_node};
-use crate::formats::uefi_node::text::arguments::Ipv4Text;
-use crate::formats::uefi_node::text::form::WriteText;
-use crate::formats::uefi_node::text::style::Style;
+use crate::formats::uefi_node::read::{NodeKind, NodeValue, RestKind, bytes_at, read_node};
 use crate::formats::uefi_node::write::{Tail, joined, write_node};
-use core::fmt;
 use crate::formats::uefi_base::little_endian::u16_at;
 use crate::formats::uefi_path::build::{BuildError, BuildNode};
 use crate::formats::uefi_path::{DevicePathNode, DeviceSubType, DeviceType};
@@ -60,18 +56,19 @@ impl core::fmt::Debug for Ipv4 {
     }
 }
 
+/// The type of the nodes, and how long their data are.
+const KIND: NodeKind = NodeKind {
+    full_type: (DeviceType::MESSAGING, DeviceSubType::MESSAGING_IPV4),
+    size: 23,
+    rest: RestKind::Nothing,
+};
+
 impl<'a> TryFrom<DevicePathNode<'a>> for Ipv4 {
     type Error = NodeConversionError;
 
     #[inline]
     fn try_from(node: DevicePathNode<'a>) -> Result<Ipv4, NodeConversionError> {
-        read_node(
-            &node,
-            DeviceType::MESSAGING,
-            DeviceSubType::MESSAGING_IPV4,
-            23,
-            RestKind::Nothing,
-        )
+        read_node(&node, KIND)
     }
 }
 
@@ -94,7 +91,7 @@ impl<'a> NodeValue<'a> for Ipv4 {
 impl BuildNode for Ipv4 {
     #[inline]
     fn full_type(&self) -> (DeviceType, DeviceSubType) {
-        (DeviceType::MESSAGING, DeviceSubType::MESSAGING_IPV4)
+        KIND.full_type
     }
 
     #[inline]
@@ -109,55 +106,7 @@ impl BuildNode for Ipv4 {
             &self.gateway_ip_address,
             &self.subnet_mask,
         ]);
-        write_node(buffer, self, self.full_type(), &fields, Tail::Bytes(&[]))
-    }
-}
-
-impl WriteText for Ipv4 {
-    #[inline]
-    fn write_text(
-        &self,
-        f: &mut fmt::Formatter<'_>,
-        style: Style,
-    ) -> Option<fmt::Result> {
-        let (local_port, remote_port) = (self.local_port, self.remote_port);
-        let origin = self.ip_address_origin.0;
-        if local_port != 0 || remote_port != 0 || origin > 1 {
-            return None;
-        }
-        let remote = Ipv4Text(self.remote_ip_address);
-        if style.display_only {
-            return Some(write!(f, "IPv4({remote})"));
-        }
-        let protocol = ProtocolText(self.protocol);
-        let local = Ipv4Text(self.local_ip_address);
-        let gateway = Ipv4Text(self.gateway_ip_address);
-        let mask = Ipv4Text(self.subnet_mask);
-        let origin = origin_name(origin);
-        Some(write!(
-            f,
-            "IPv4({remote},{protocol},{origin},{local},{gateway},{mask})",
-        ))
-    }
-}
-
-/// Returns the name of an origin of an IPv4 address.
-#[inline]
-fn origin_name(origin: u8) -> &'static str {
-    if origin == 1 { "Static" } else { "DHCP" }
-}
-
-/// A network protocol, displayed as its name or its number.
-#[derive(Clone, Copy, Debug)]
-pub(crate) struct ProtocolText(pub(crate) u16);
-
-impl fmt::Display for ProtocolText {
-    fn fmt(&self, f: &mut fmt::Formatter<'_>) -> fmt::Result {
-        match self.0 {
-            6 => f.write_str("TCP"),
-            17 => f.write_str("UDP"),
-            number => write!(f, "0x{number:X}"),
-        }
+        write_node(buffer, KIND, self, &fields, Tail::Bytes(&[]))
     }
 }
 

@@ -1,13 +1,8 @@
 // @generated from proved source. It is not edited.
 
 use crate::formats::uefi_node::error::NodeConversionError;
-use crate::formats::uefi_node::messaging::ipv4::ProtocolText;
-use crate::formats::uefi_node::read::{NodeValue, RestKind, bytes_at, read_node};
-use crate::formats::uefi_node::text::arguments::Ipv6Text;
-use crate::formats::uefi_node::text::form::WriteText;
-use crate::formats::uefi_node::text::style::Style;
+use crate::formats::uefi_node::read::{NodeKind, NodeValue, RestKind, bytes_at, read_node};
 use crate::formats::uefi_node::write::{Tail, joined, write_node};
-use core::fmt;
 use crate::formats::uefi_base::little_endian::u16_at;
 use crate::formats::uefi_path::build::{BuildError, BuildNode};
 use crate::formats::uefi_path::{DevicePathNode, DeviceSubType, DeviceType};
@@ -61,18 +56,19 @@ impl core::fmt::Debug for Ipv6 {
     }
 }
 
+/// The type of the nodes, and how long their data are.
+const KIND: NodeKind = NodeKind {
+    full_type: (DeviceType::MESSAGING, DeviceSubType::MESSAGING_IPV6),
+    size: 56,
+    rest: RestKind::Nothing,
+};
+
 impl<'a> TryFrom<DevicePathNode<'a>> for Ipv6 {
     type Error = NodeConversionError;
 
     #[inline]
     fn try_from(node: DevicePathNode<'a>) -> Result<Ipv6, NodeConversionError> {
-        read_node(
-            &node,
-            DeviceType::MESSAGING,
-            DeviceSubType::MESSAGING_IPV6,
-            56,
-            RestKind::Nothing,
-        )
+        read_node(&node, KIND)
     }
 }
 
@@ -95,7 +91,7 @@ impl<'a> NodeValue<'a> for Ipv6 {
 impl BuildNode for Ipv6 {
     #[inline]
     fn full_type(&self) -> (DeviceType, DeviceSubType) {
-        (DeviceType::MESSAGING, DeviceSubType::MESSAGING_IPV6)
+        KIND.full_type
     }
 
     #[inline]
@@ -110,45 +106,7 @@ impl BuildNode for Ipv6 {
             &self.prefix_length.to_le_bytes(),
             &self.gateway_ip_address,
         ]);
-        write_node(buffer, self, self.full_type(), &fields, Tail::Bytes(&[]))
-    }
-}
-
-impl WriteText for Ipv6 {
-    #[inline]
-    fn write_text(
-        &self,
-        f: &mut fmt::Formatter<'_>,
-        style: Style,
-    ) -> Option<fmt::Result> {
-        let (local_port, remote_port) = (self.local_port, self.remote_port);
-        let origin = self.ip_address_origin.0;
-        if local_port != 0 || remote_port != 0 || origin > 2 {
-            return None;
-        }
-        let remote = Ipv6Text(self.remote_ip_address);
-        if style.display_only {
-            return Some(write!(f, "IPv6({remote})"));
-        }
-        let protocol = ProtocolText(self.protocol);
-        let local = Ipv6Text(self.local_ip_address);
-        let gateway = Ipv6Text(self.gateway_ip_address);
-        let prefix_length = self.prefix_length;
-        let origin = origin_name(origin);
-        Some(write!(
-            f,
-            "IPv6({remote},{protocol},{origin},{local},0x{prefix_length:X},{gateway})",
-        ))
-    }
-}
-
-/// Returns the name of an origin of an IPv6 address.
-#[inline]
-fn origin_name(origin: u8) -> &'static str {
-    match origin {
-        0 => "Static",
-        1 => "StatelessAutoConfigure",
-        _ => "StatefulAutoConfigure",
+        write_node(buffer, KIND, self, &fields, Tail::Bytes(&[]))
     }
 }
 

@@ -2,12 +2,8 @@
 
 use crate::formats::uefi_node::error::NodeConversionError;
 use crate::formats::uefi_node::messaging::iscsi_login_options::IscsiLoginOptions;
-use crate::formats::uefi_node::read::{NodeValue, RestKind, bytes_at, read_node};
-use crate::formats::uefi_node::text::arguments::{HexBytes, nul_ended_argument, write_argument};
-use crate::formats::uefi_node::text::form::WriteText;
-use crate::formats::uefi_node::text::style::Style;
+use crate::formats::uefi_node::read::{NodeKind, NodeValue, RestKind, bytes_at, read_node};
 use crate::formats::uefi_node::write::{Tail, joined, write_node};
-use core::fmt;
 use crate::formats::uefi_base::little_endian::u16_at;
 use crate::formats::uefi_path::build::{BuildError, BuildNode};
 use crate::formats::uefi_path::{DevicePathNode, DeviceSubType, DeviceType};
@@ -49,18 +45,19 @@ impl core::fmt::Debug for Iscsi<'_> {
     }
 }
 
+/// The type of the nodes, and how long their data are.
+const KIND: NodeKind = NodeKind {
+    full_type: (DeviceType::MESSAGING, DeviceSubType::MESSAGING_ISCSI),
+    size: 14,
+    rest: RestKind::Bytes,
+};
+
 impl<'a> TryFrom<DevicePathNode<'a>> for Iscsi<'a> {
     type Error = NodeConversionError;
 
     #[inline]
     fn try_from(node: DevicePathNode<'a>) -> Result<Iscsi<'a>, NodeConversionError> {
-        read_node(
-            &node,
-            DeviceType::MESSAGING,
-            DeviceSubType::MESSAGING_ISCSI,
-            14,
-            RestKind::Bytes,
-        )
+        read_node(&node, KIND)
     }
 }
 
@@ -81,7 +78,7 @@ impl<'a> NodeValue<'a> for Iscsi<'a> {
 impl BuildNode for Iscsi<'_> {
     #[inline]
     fn full_type(&self) -> (DeviceType, DeviceSubType) {
-        (DeviceType::MESSAGING, DeviceSubType::MESSAGING_ISCSI)
+        KIND.full_type
     }
 
     #[inline]
@@ -94,99 +91,11 @@ impl BuildNode for Iscsi<'_> {
         ]);
         write_node(
             buffer,
+            KIND,
             self,
-            self.full_type(),
             &fields,
             Tail::Bytes(self.iscsi_target_name),
         )
-    }
-}
-
-impl WriteText for Iscsi<'_> {
-    #[inline]
-    fn write_text(
-        &self,
-        f: &mut fmt::Formatter<'_>,
-        _style: Style,
-    ) -> Option<fmt::Result> {
-        let options = self.options.bits();
-        if self.protocol != IscsiProtocol::TCP || options != said_options(options) {
-            return None;
-        }
-        let name = nul_ended_argument(self.iscsi_target_name)?;
-        let (lun, tag) = (self.logical_unit_number, self.target_portal_group_tag);
-        Some(write_iscsi(f, options, lun, tag, name))
-    }
-}
-
-/// Writes the form with these options, logical unit, tag and name.
-#[inline]
-fn write_iscsi(
-    f: &mut fmt::Formatter<'_>,
-    options: u16,
-    lun: [u8; 8],
-    tag: u16,
-    name: &[u8],
-) -> fmt::Result {
-    let (headers, data) = (header_digest(options), data_digest(options));
-    let (lun, authentication) = (HexBytes(&lun), authentication(options));
-    f.write_str("iSCSI(")?;
-    write_argument(f, name)?;
-    write!(
-        f,
-        ",0x{tag:X},0x{lun},{headers},{data},{authentication},TCP)"
-    )
-}
-
-/// Returns the options that the words of `options` say.
-#[inline]
-fn said_options(options: u16) -> u16 {
-    let headers = if options / 0x2 % 2 == 1 { 0x2 } else { 0 };
-    let data = if options / 0x8 % 2 == 1 { 0x8 } else { 0 };
-    headers + data + authentication_bits(options)
-}
-
-/// Returns the options of the authentication.
-#[inline]
-fn authentication_bits(options: u16) -> u16 {
-    if options / 0x800 % 2 == 1 {
-        0x800
-    } else if options / 0x1000 % 2 == 1 {
-        0x1000
-    } else {
-        0
-    }
-}
-
-/// Returns the name of the digest of headers.
-#[inline]
-fn header_digest(options: u16) -> &'static str {
-    if options / 0x2 % 2 == 1 {
-        "CRC32C"
-    } else {
-        "None"
-    }
-}
-
-/// Returns the name of the digest of data.
-#[inline]
-fn data_digest(options: u16) -> &'static str {
-    if options / 0x8 % 2 == 1 {
-        "CRC32C"
-    } else {
-        "None"
-    }
-}
-
-/// Returns the name of the authentication.
-#[inline]
-fn authentication(options: u16) -> &'static str {
-    if options / 0x800 % 2 == 1 {
-        "None"
-    } else if options / 0x1000 % 2 == 1 {
-        "CHAP_UNI"
-    } else {
-        "CHAP_BI"
     }
 }
 

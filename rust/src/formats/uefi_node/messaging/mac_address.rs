@@ -1,13 +1,8 @@
 // @generated from proved source. It is not edited.
 
 use crate::formats::uefi_node::error::NodeConversionError;
-use crate::formats::uefi_node::media::partition_signature::are_zero;
-use crate::formats::uefi_node::read::{NodeValue, RestKind, bytes_at, read_node};
-use crate::formats::uefi_node::text::arguments::HexBytes;
-use crate::formats::uefi_node::text::form::WriteText;
-use crate::formats::uefi_node::text::style::Style;
+use crate::formats::uefi_node::read::{NodeKind, NodeValue, RestKind, bytes_at, read_node};
 use crate::formats::uefi_node::write::{Tail, joined, write_node};
-use core::fmt;
 use crate::formats::uefi_path::build::{BuildError, BuildNode};
 use crate::formats::uefi_path::{DevicePathNode, DeviceSubType, DeviceType};
 
@@ -36,18 +31,19 @@ impl core::fmt::Debug for MacAddress {
     }
 }
 
+/// The type of the nodes, and how long their data are.
+const KIND: NodeKind = NodeKind {
+    full_type: (DeviceType::MESSAGING, DeviceSubType::MESSAGING_MAC_ADDRESS),
+    size: 33,
+    rest: RestKind::Nothing,
+};
+
 impl<'a> TryFrom<DevicePathNode<'a>> for MacAddress {
     type Error = NodeConversionError;
 
     #[inline]
     fn try_from(node: DevicePathNode<'a>) -> Result<MacAddress, NodeConversionError> {
-        read_node(
-            &node,
-            DeviceType::MESSAGING,
-            DeviceSubType::MESSAGING_MAC_ADDRESS,
-            33,
-            RestKind::Nothing,
-        )
+        read_node(&node, KIND)
     }
 }
 
@@ -64,32 +60,12 @@ impl<'a> NodeValue<'a> for MacAddress {
 impl BuildNode for MacAddress {
     #[inline]
     fn full_type(&self) -> (DeviceType, DeviceSubType) {
-        (DeviceType::MESSAGING, DeviceSubType::MESSAGING_MAC_ADDRESS)
+        KIND.full_type
     }
 
     #[inline]
     fn write(&self, buffer: &mut [u8]) -> Result<usize, BuildError> {
         let fields = joined::<33>(&[&self.mac_address, &self.interface_type.to_le_bytes()]);
-        write_node(buffer, self, self.full_type(), &fields, Tail::Bytes(&[]))
-    }
-}
-
-impl WriteText for MacAddress {
-    #[inline]
-    fn write_text(
-        &self,
-        f: &mut fmt::Formatter<'_>,
-        _style: Style,
-    ) -> Option<fmt::Result> {
-        let interface_type = self.interface_type;
-        if interface_type > 1 {
-            let address = HexBytes(&self.mac_address);
-            return Some(write!(f, "MAC({address},0x{interface_type:X})"));
-        }
-        let (address, padding) = self.mac_address.split_at(6);
-        if !are_zero(padding) {
-            return None;
-        }
-        Some(write!(f, "MAC({},0x{interface_type:X})", HexBytes(address)))
+        write_node(buffer, KIND, self, &fields, Tail::Bytes(&[]))
     }
 }

@@ -1,7 +1,7 @@
 // @generated from proved source. It is not edited.
 
 use crate::formats::uefi_node::error::NodeConversionError;
-use crate::formats::uefi_node::read::{NodeValue, RestKind, bytes_at, read_node};
+use crate::formats::uefi_node::read::{NodeKind, NodeValue, RestKind, bytes_at, read_node};
 use crate::formats::uefi_node::write::{Tail, joined, write_node};
 use crate::formats::uefi_path::build::{BuildError, BuildNode};
 use crate::formats::uefi_path::{DevicePathNode, DeviceSubType, DeviceType};
@@ -35,18 +35,22 @@ impl core::fmt::Debug for NvmeOfNamespace<'_> {
     }
 }
 
+/// The type of the nodes, and how long their data are.
+const KIND: NodeKind = NodeKind {
+    full_type: (
+        DeviceType::MESSAGING,
+        DeviceSubType::MESSAGING_NVME_OF_NAMESPACE,
+    ),
+    size: 17,
+    rest: RestKind::Bytes,
+};
+
 impl<'a> TryFrom<DevicePathNode<'a>> for NvmeOfNamespace<'a> {
     type Error = NodeConversionError;
 
     #[inline]
     fn try_from(node: DevicePathNode<'a>) -> Result<NvmeOfNamespace<'a>, NodeConversionError> {
-        read_node(
-            &node,
-            DeviceType::MESSAGING,
-            DeviceSubType::MESSAGING_NVME_OF_NAMESPACE,
-            17,
-            RestKind::Bytes,
-        )
+        read_node(&node, KIND)
     }
 }
 
@@ -65,21 +69,12 @@ impl<'a> NodeValue<'a> for NvmeOfNamespace<'a> {
 impl BuildNode for NvmeOfNamespace<'_> {
     #[inline]
     fn full_type(&self) -> (DeviceType, DeviceSubType) {
-        (
-            DeviceType::MESSAGING,
-            DeviceSubType::MESSAGING_NVME_OF_NAMESPACE,
-        )
+        KIND.full_type
     }
 
     #[inline]
     fn write(&self, buffer: &mut [u8]) -> Result<usize, BuildError> {
         let fields = joined::<17>(&[&self.nidt.to_le_bytes(), &self.nid]);
-        write_node(
-            buffer,
-            self,
-            self.full_type(),
-            &fields,
-            Tail::Bytes(self.subsystem_nqn),
-        )
+        write_node(buffer, KIND, self, &fields, Tail::Bytes(self.subsystem_nqn))
     }
 }

@@ -1,7 +1,7 @@
 // @generated from proved source. It is not edited.
 
 use crate::formats::uefi_node::error::NodeConversionError;
-use crate::formats::uefi_node::read::{NodeValue, RestKind, bytes_at, read_node};
+use crate::formats::uefi_node::read::{NodeKind, NodeValue, RestKind, bytes_at, read_node};
 use crate::formats::uefi_node::write::{Tail, joined, write_node};
 use crate::formats::uefi_base::Guid;
 use crate::formats::uefi_path::build::{BuildError, BuildNode};
@@ -39,18 +39,19 @@ impl RestService<'_> {
     }
 }
 
+/// The type of the nodes, and how long their data are.
+const KIND: NodeKind = NodeKind {
+    full_type: (DeviceType::MESSAGING, DeviceSubType::MESSAGING_REST_SERVICE),
+    size: 2,
+    rest: RestKind::Bytes,
+};
+
 impl<'a> TryFrom<DevicePathNode<'a>> for RestService<'a> {
     type Error = NodeConversionError;
 
     #[inline]
     fn try_from(node: DevicePathNode<'a>) -> Result<RestService<'a>, NodeConversionError> {
-        read_node(
-            &node,
-            DeviceType::MESSAGING,
-            DeviceSubType::MESSAGING_REST_SERVICE,
-            2,
-            RestKind::Bytes,
-        )
+        read_node(&node, KIND)
     }
 }
 
@@ -85,7 +86,7 @@ impl<'a> NodeValue<'a> for RestService<'a> {
 impl BuildNode for RestService<'_> {
     #[inline]
     fn full_type(&self) -> (DeviceType, DeviceSubType) {
-        (DeviceType::MESSAGING, DeviceSubType::MESSAGING_REST_SERVICE)
+        KIND.full_type
     }
 
     #[inline]
@@ -98,10 +99,10 @@ impl BuildNode for RestService<'_> {
             &self.access_mode.0.to_le_bytes(),
         ]);
         match self.vendor_guid_and_data {
-            None => write_node(buffer, self, self.full_type(), &fields, Tail::Bytes(&[])),
+            None => write_node(buffer, KIND, self, &fields, Tail::Bytes(&[])),
             Some((guid, data)) => {
                 let parts: [&[u8]; 2] = [&guid.to_bytes(), data];
-                write_node(buffer, self, self.full_type(), &fields, Tail::Parts(&parts))
+                write_node(buffer, KIND, self, &fields, Tail::Parts(&parts))
             }
         }
     }

@@ -1,11 +1,8 @@
 // @generated from proved source. It is not edited.
 
 use crate::formats::uefi_node::error::NodeConversionError;
-use crate::formats::uefi_node::read::{NodeValue, RestKind, read_node};
-use crate::formats::uefi_node::text::form::WriteText;
-use crate::formats::uefi_node::text::style::Style;
+use crate::formats::uefi_node::read::{NodeKind, NodeValue, RestKind, read_node};
 use crate::formats::uefi_node::write::{Tail, joined, write_node};
-use core::fmt;
 use crate::formats::uefi_base::little_endian::{u32_at, u64_at};
 use crate::formats::uefi_path::build::{BuildError, BuildNode};
 use crate::formats::uefi_path::{DevicePathNode, DeviceSubType, DeviceType};
@@ -35,18 +32,19 @@ pub struct Uart {
     pub stop_bits: StopBits,
 }
 
+/// The type of the nodes, and how long their data are.
+const KIND: NodeKind = NodeKind {
+    full_type: (DeviceType::MESSAGING, DeviceSubType::MESSAGING_UART),
+    size: 15,
+    rest: RestKind::Nothing,
+};
+
 impl<'a> TryFrom<DevicePathNode<'a>> for Uart {
     type Error = NodeConversionError;
 
     #[inline]
     fn try_from(node: DevicePathNode<'a>) -> Result<Uart, NodeConversionError> {
-        read_node(
-            &node,
-            DeviceType::MESSAGING,
-            DeviceSubType::MESSAGING_UART,
-            15,
-            RestKind::Nothing,
-        )
+        read_node(&node, KIND)
     }
 }
 
@@ -66,7 +64,7 @@ impl<'a> NodeValue<'a> for Uart {
 impl BuildNode for Uart {
     #[inline]
     fn full_type(&self) -> (DeviceType, DeviceSubType) {
-        (DeviceType::MESSAGING, DeviceSubType::MESSAGING_UART)
+        KIND.full_type
     }
 
     #[inline]
@@ -78,69 +76,7 @@ impl BuildNode for Uart {
             &self.parity.0.to_le_bytes(),
             &self.stop_bits.0.to_le_bytes(),
         ]);
-        write_node(buffer, self, self.full_type(), &fields, Tail::Bytes(&[]))
-    }
-}
-
-impl WriteText for Uart {
-    #[inline]
-    fn write_text(
-        &self,
-        f: &mut fmt::Formatter<'_>,
-        _style: Style,
-    ) -> Option<fmt::Result> {
-        let (reserved, baud_rate, data_bits) = (self.reserved, self.baud_rate, self.data_bits);
-        let (parity, stop_bits) = (self.parity.0, self.stop_bits.0);
-        if reserved != 0 || parity > 5 || stop_bits > 3 {
-            return None;
-        }
-        Some(write!(
-            f,
-            "Uart({},{},{},{})",
-            NumberOrDefault(baud_rate),
-            NumberOrDefault(u64::from(data_bits)),
-            parity_letter(parity),
-            stop_bits_count(stop_bits),
-        ))
-    }
-}
-
-/// A number, displayed in decimal, and 0 as `DEFAULT`.
-#[derive(Clone, Copy, Debug)]
-struct NumberOrDefault(u64);
-
-impl fmt::Display for NumberOrDefault {
-    fn fmt(&self, f: &mut fmt::Formatter<'_>) -> fmt::Result {
-        let number = self.0;
-        if number == 0 {
-            f.write_str("DEFAULT")
-        } else {
-            write!(f, "{number}")
-        }
-    }
-}
-
-/// Returns the letter of a parity.
-#[inline]
-fn parity_letter(parity: u8) -> &'static str {
-    match parity {
-        0 => "D",
-        1 => "N",
-        2 => "E",
-        3 => "O",
-        4 => "M",
-        _ => "S",
-    }
-}
-
-/// Returns how a number of stop bits is written.
-#[inline]
-fn stop_bits_count(stop_bits: u8) -> &'static str {
-    match stop_bits {
-        0 => "D",
-        1 => "1",
-        2 => "1.5",
-        _ => "2",
+        write_node(buffer, KIND, self, &fields, Tail::Bytes(&[]))
     }
 }
 

@@ -1,12 +1,8 @@
 // @generated from proved source. It is not edited.
 
 use crate::formats::uefi_node::error::NodeConversionError;
-use crate::formats::uefi_node::read::{NodeValue, RestKind, read_node};
-use crate::formats::uefi_node::text::arguments::{is_argument, write_argument};
-use crate::formats::uefi_node::text::form::WriteText;
-use crate::formats::uefi_node::text::style::Style;
+use crate::formats::uefi_node::read::{NodeKind, NodeValue, RestKind, read_node};
 use crate::formats::uefi_node::write::{Tail, write_node};
-use core::fmt;
 use crate::formats::uefi_path::build::{BuildError, BuildNode};
 use crate::formats::uefi_path::{DevicePathNode, DeviceSubType, DeviceType};
 
@@ -31,18 +27,19 @@ impl core::fmt::Debug for Uri<'_> {
     }
 }
 
+/// The type of the nodes, and how long their data are.
+const KIND: NodeKind = NodeKind {
+    full_type: (DeviceType::MESSAGING, DeviceSubType::MESSAGING_URI),
+    size: 0,
+    rest: RestKind::Bytes,
+};
+
 impl<'a> TryFrom<DevicePathNode<'a>> for Uri<'a> {
     type Error = NodeConversionError;
 
     #[inline]
     fn try_from(node: DevicePathNode<'a>) -> Result<Uri<'a>, NodeConversionError> {
-        read_node(
-            &node,
-            DeviceType::MESSAGING,
-            DeviceSubType::MESSAGING_URI,
-            0,
-            RestKind::Bytes,
-        )
+        read_node(&node, KIND)
     }
 }
 
@@ -56,33 +53,11 @@ impl<'a> NodeValue<'a> for Uri<'a> {
 impl BuildNode for Uri<'_> {
     #[inline]
     fn full_type(&self) -> (DeviceType, DeviceSubType) {
-        (DeviceType::MESSAGING, DeviceSubType::MESSAGING_URI)
+        KIND.full_type
     }
 
     #[inline]
     fn write(&self, buffer: &mut [u8]) -> Result<usize, BuildError> {
-        write_node(buffer, self, self.full_type(), &[], Tail::Bytes(self.value))
+        write_node(buffer, KIND, self, &[], Tail::Bytes(self.value))
     }
-}
-
-impl WriteText for Uri<'_> {
-    #[inline]
-    fn write_text(
-        &self,
-        f: &mut fmt::Formatter<'_>,
-        _style: Style,
-    ) -> Option<fmt::Result> {
-        if !is_argument(self.value) {
-            return None;
-        }
-        Some(write_uri(f, self.value))
-    }
-}
-
-/// Writes the form of a URI whose text can be an argument.
-#[inline]
-fn write_uri(f: &mut fmt::Formatter<'_>, value: &[u8]) -> fmt::Result {
-    f.write_str("Uri(")?;
-    write_argument(f, value)?;
-    f.write_str(")")
 }

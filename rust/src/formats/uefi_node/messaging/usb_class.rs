@@ -1,11 +1,8 @@
 // @generated from proved source. It is not edited.
 
 use crate::formats::uefi_node::error::NodeConversionError;
-use crate::formats::uefi_node::read::{NodeValue, RestKind, read_node};
-use crate::formats::uefi_node::text::form::WriteText;
-use crate::formats::uefi_node::text::style::Style;
+use crate::formats::uefi_node::read::{NodeKind, NodeValue, RestKind, read_node};
 use crate::formats::uefi_node::write::{Tail, joined, write_node};
-use core::fmt;
 use crate::formats::uefi_base::little_endian::u16_at;
 use crate::formats::uefi_path::build::{BuildError, BuildNode};
 use crate::formats::uefi_path::{DevicePathNode, DeviceSubType, DeviceType};
@@ -35,18 +32,19 @@ pub struct UsbClass {
     pub device_protocol: u8,
 }
 
+/// The type of the nodes, and how long their data are.
+const KIND: NodeKind = NodeKind {
+    full_type: (DeviceType::MESSAGING, DeviceSubType::MESSAGING_USB_CLASS),
+    size: 7,
+    rest: RestKind::Nothing,
+};
+
 impl<'a> TryFrom<DevicePathNode<'a>> for UsbClass {
     type Error = NodeConversionError;
 
     #[inline]
     fn try_from(node: DevicePathNode<'a>) -> Result<UsbClass, NodeConversionError> {
-        read_node(
-            &node,
-            DeviceType::MESSAGING,
-            DeviceSubType::MESSAGING_USB_CLASS,
-            7,
-            RestKind::Nothing,
-        )
+        read_node(&node, KIND)
     }
 }
 
@@ -66,7 +64,7 @@ impl<'a> NodeValue<'a> for UsbClass {
 impl BuildNode for UsbClass {
     #[inline]
     fn full_type(&self) -> (DeviceType, DeviceSubType) {
-        (DeviceType::MESSAGING, DeviceSubType::MESSAGING_USB_CLASS)
+        KIND.full_type
     }
 
     #[inline]
@@ -78,62 +76,6 @@ impl BuildNode for UsbClass {
             &self.device_subclass.to_le_bytes(),
             &self.device_protocol.to_le_bytes(),
         ]);
-        write_node(buffer, self, self.full_type(), &fields, Tail::Bytes(&[]))
-    }
-}
-
-impl WriteText for UsbClass {
-    #[inline]
-    fn write_text(
-        &self,
-        f: &mut fmt::Formatter<'_>,
-        _style: Style,
-    ) -> Option<fmt::Result> {
-        let (vendor, product, class) = (self.vendor_id, self.product_id, self.device_class);
-        let (subclass, protocol) = (self.device_subclass, self.device_protocol);
-        if let Some(name) = class_name(class) {
-            return Some(write!(
-                f,
-                "{name}(0x{vendor:X},0x{product:X},0x{subclass:X},0x{protocol:X})",
-            ));
-        }
-        if let Some(name) = subclass_name(class, subclass) {
-            return Some(write!(f, "{name}(0x{vendor:X},0x{product:X},0x{protocol:X})"));
-        }
-        Some(write!(
-            f,
-            "UsbClass(0x{vendor:X},0x{product:X},0x{class:X},0x{subclass:X},0x{protocol:X})",
-        ))
-    }
-}
-
-/// Returns the name of a class that has a form of its own.
-#[inline]
-fn class_name(class: u8) -> Option<&'static str> {
-    match class {
-        1 => Some("UsbAudio"),
-        2 => Some("UsbCDCControl"),
-        3 => Some("UsbHID"),
-        6 => Some("UsbImage"),
-        7 => Some("UsbPrinter"),
-        8 => Some("UsbMassStorage"),
-        9 => Some("UsbHub"),
-        0x0a => Some("UsbCDCData"),
-        0x0b => Some("UsbSmartCard"),
-        0x0e => Some("UsbVideo"),
-        0xdc => Some("UsbDiagnostic"),
-        0xe0 => Some("UsbWireless"),
-        _ => None,
-    }
-}
-
-/// Returns the name of a subclass that has a form of its own: those of the class 0xfe.
-#[inline]
-fn subclass_name(class: u8, subclass: u8) -> Option<&'static str> {
-    match (class, subclass) {
-        (0xfe, 1) => Some("UsbDeviceFirmwareUpdate"),
-        (0xfe, 2) => Some("UsbIrdaBridge"),
-        (0xfe, 3) => Some("UsbTestAndMeasurement"),
-        _ => None,
+        write_node(buffer, KIND, self, &fields, Tail::Bytes(&[]))
     }
 }

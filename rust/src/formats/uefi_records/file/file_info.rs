@@ -8,7 +8,7 @@ use crate::formats::uefi_records::file::write::write_file_info;
 use crate::formats::uefi_records::flags::FileAttribute;
 use crate::formats::uefi_records::time::Time;
 use crate::formats::uefi_base::little_endian::u64_at;
-use crate::formats::uefi_base::{CStr16, Error, IdentifiedBy, UnalignedSlice};
+use crate::formats::uefi_base::{Align, CStr16, Error, IdentifiedBy, UnalignedSlice};
 
 // The offsets of the fields, and the record's alignment.
 pub(crate) const SIZE_OFFSET: usize = 0;
@@ -223,6 +223,13 @@ impl PartialEq for FileInfo<'_> {
 }
 
 impl Eq for FileInfo<'_> {}
+
+impl Align for FileInfo<'_> {
+    #[inline]
+    fn alignment() -> usize {
+        ALIGNMENT
+    }
+}
 
 impl IdentifiedBy for FileInfo<'_> {
     type Identity = FileInfoIdentity;

@@ -6,7 +6,7 @@ use crate::formats::uefi_records::file::name::{name_at, name_end};
 use crate::formats::uefi_records::file::protocol_info::FileProtocolInfo;
 use crate::formats::uefi_records::file::write::write_file_system_info;
 use crate::formats::uefi_base::little_endian::{u32_at, u64_at};
-use crate::formats::uefi_base::{CStr16, Error, IdentifiedBy, UnalignedSlice};
+use crate::formats::uefi_base::{Align, CStr16, Error, IdentifiedBy, UnalignedSlice};
 
 // The offsets of the fields, and the record's alignment.
 pub(crate) const SIZE_OFFSET: usize = 0;
@@ -175,6 +175,13 @@ impl PartialEq for FileSystemInfo<'_> {
 }
 
 impl Eq for FileSystemInfo<'_> {}
+
+impl Align for FileSystemInfo<'_> {
+    #[inline]
+    fn alignment() -> usize {
+        ALIGNMENT
+    }
+}
 
 impl IdentifiedBy for FileSystemInfo<'_> {
     type Identity = FileSystemInfoIdentity;

@@ -5,7 +5,7 @@ use crate::formats::uefi_records::file::identity::FileSystemVolumeLabelIdentity;
 use crate::formats::uefi_records::file::name::{name_at, name_end};
 use crate::formats::uefi_records::file::protocol_info::FileProtocolInfo;
 use crate::formats::uefi_records::file::write::write_file_system_volume_label;
-use crate::formats::uefi_base::{CStr16, Error, IdentifiedBy, UnalignedSlice};
+use crate::formats::uefi_base::{Align, CStr16, Error, IdentifiedBy, UnalignedSlice};
 
 // The offset of the label, and the record's alignment.
 pub(crate) const LABEL_OFFSET: usize = 0;
@@ -91,6 +91,13 @@ impl PartialEq for FileSystemVolumeLabel<'_> {
 }
 
 impl Eq for FileSystemVolumeLabel<'_> {}
+
+impl Align for FileSystemVolumeLabel<'_> {
+    #[inline]
+    fn alignment() -> usize {
+        ALIGNMENT
+    }
+}
 
 impl IdentifiedBy for FileSystemVolumeLabel<'_> {
     type Identity = FileSystemVolumeLabelIdentity;

@@ -12,6 +12,7 @@ use uefi_formats::proto::tcg::{AlgorithmId, LogEvent};
 mod bytes;
 mod digests;
 mod lines;
+mod prefix;
 mod said;
 mod sides;
 mod words;

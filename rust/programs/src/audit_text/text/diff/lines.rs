@@ -160,15 +160,6 @@ fn push_digests(
     if !has_no_form(event) {
         return Ok(());
     }
-    push_each_digest(text, algorithms, event)
-}
-
-/// Appends the digests of an event, each after a comma.
-fn push_each_digest(
-    text: &mut String,
-    algorithms: &[AlgorithmId],
-    event: &LogEvent<'_>,
-) -> Result<(), AllocError> {
     for algorithm in algorithms {
         push_digest(text, *algorithm, event)?;
     }

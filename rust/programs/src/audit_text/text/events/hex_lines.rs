@@ -1,5 +1,7 @@
 // @generated from proved source. It is not edited.
 
+use crate::support::fallible::*;
+
 use crate::audit_text::words::printed::printed_text;
 use crate::shown::ShownName;
 use crate::support::alloc::AllocError;
@@ -7,32 +9,18 @@ use crate::support::alloc::AllocError;
 /// How many bytes a line has.
 const LINE_LENGTH: usize = 32;
 
-/// Appends what bytes are, and the text that they are, if all of it prints, or the bytes in hex, 32 a
-/// line; nothing if there are no bytes.
-pub(crate) fn push_bytes_lines(
-    text: &mut String,
-    what: &str,
-    bytes: &[u8],
-) -> Result<(), AllocError> {
-    if bytes.is_empty() {
-        return Ok(());
-    }
+/// Appends `: ` and the text that bytes are, if all of it prints, or the bytes in hex, 32 a line.
+pub(crate) fn push_bytes(text: &mut String, bytes: &[u8]) -> Result<(), AllocError> {
     match printed_text(bytes)? {
-        Some(printed) => push_printed(text, what, printed.as_str()),
-        None => push_hex(text, what, bytes),
+        Some(printed) => {
+            let printed = ShownName(printed.as_str());
+            fallible_writeln!(text, ": {printed}")
+        }
+        None => {
+            text.fallible_push_str("\n")?;
+            push_hex_lines(text, bytes)
+        }
     }
-}
-
-/// Appends what bytes are and the text that they are.
-fn push_printed(text: &mut String, what: &str, printed: &str) -> Result<(), AllocError> {
-    let printed = ShownName(printed);
-    fallible_writeln!(text, "  {what}: {printed}")
-}
-
-/// Appends what bytes are and the bytes in hex, 32 a line.
-fn push_hex(text: &mut String, what: &str, bytes: &[u8]) -> Result<(), AllocError> {
-    fallible_writeln!(text, "  {what}")?;
-    push_hex_lines(text, bytes)
 }
 
 /// Appends bytes in hex, 32 a line.

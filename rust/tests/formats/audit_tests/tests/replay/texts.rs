@@ -1,6 +1,6 @@
 // @generated from proved source. It is not edited.
 
-use crate::pcr_replay::{Fault, NoQuoteDigest, ReadLogError, Undetermined};
+use crate::pcr_replay::{Fault, NoQuoteDigest, Undetermined};
 use crate::support::alloc::AllocError;
 use core::error::Error;
 use crate::support::test::Fail;
@@ -60,16 +60,5 @@ fn an_error_says_what_is_wrong() -> Result<(), Fail> {
         "a PCR",
         text(&undetermined)?.as_str(),
         "PCR 7 of algorithm 0xb is undetermined: event 3 at offset 675 has no digest of the bank",
-    )?;
-    same_text(
-        "memory",
-        text(&ReadLogError::Memory)?.as_str(),
-        "out of memory",
-    )?;
-    let many = ReadLogError::TooManyAlgorithms(257);
-    same_text(
-        "algorithms",
-        text(&many)?.as_str(),
-        "a header of 257 algorithms",
     )
 }

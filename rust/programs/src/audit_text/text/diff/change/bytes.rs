@@ -1,5 +1,6 @@
 // @generated from proved source. It is not edited.
 
+use crate::audit_text::text::diff::change::prefix::common_prefix_length;
 use crate::audit_text::text::diff::change::sides::change_between;
 use crate::audit_text::words::push_more;
 use crate::support::alloc::AllocError;
@@ -12,7 +13,7 @@ pub(crate) fn byte_change(old: &[u8], new: &[u8]) -> Result<String, AllocError> 
     if old == new {
         return Ok(String::new());
     }
-    bytes_from(common_length(old, new), old, new)
+    bytes_from(common_prefix_length(old, new), old, new)
 }
 
 /// Returns the bytes of both sides in hex from an index.
@@ -23,17 +24,6 @@ fn bytes_from(index: usize, old: &[u8], new: &[u8]) -> Result<String, AllocError
     let new = first_bytes(new)?;
     let change = change_between(old.as_str(), new.as_str())?;
     fallible_format!("from byte {index}: {change}")
-}
-
-/// Returns the length of the longest prefix that both sides have.
-fn common_length(old: &[u8], new: &[u8]) -> usize {
-    let shorter = old.len().min(new.len());
-    for index in 0..shorter {
-        if old[index] != new[index] {
-            return index;
-        }
-    }
-    shorter
 }
 
 /// Returns the first bytes in hex, and how many there are more.

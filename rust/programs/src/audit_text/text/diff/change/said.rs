@@ -5,7 +5,7 @@ use crate::support::fallible::*;
 use crate::audit_text::text::diff::change::bytes::byte_change;
 use crate::audit_text::text::diff::change::lines::line_change;
 use crate::audit_text::text::diff::change::words::word_change;
-use crate::audit_text::text::events::content::push_content;
+use crate::audit_text::text::events::parts::push_content;
 use crate::audit_text::words::printed::printed_text;
 use crate::audit_text::words::texts::{shown, shown_event, shown_version};
 use crate::support::alloc::AllocError;

@@ -2,6 +2,7 @@
 
 use crate::support::fallible::*;
 
+use crate::audit_text::text::diff::change::prefix::common_prefix_length;
 use crate::audit_text::text::diff::change::sides::change_between;
 use crate::support::alloc::AllocError;
 
@@ -32,13 +33,7 @@ fn words_of<'a>(text: &'a str) -> Result<Vec<&'a str>, AllocError> {
 
 /// Returns how many first words both texts have.
 fn common_count(old: &[&str], new: &[&str]) -> usize {
-    let shorter = old.len().min(new.len());
-    for index in 0..shorter {
-        if old[index] != new[index] {
-            return index;
-        }
-    }
-    shorter
+    common_prefix_length(old, new)
 }
 
 /// Returns the words from an index, after `.. ` for those before them.

@@ -1,11 +1,11 @@
 // @generated from proved source. It is not edited.
 
 use crate::pcr_replay::entries::{has_measured, is_active, replay, restarted, start_of, startup_locality};
-use crate::pcr_replay::{Bank, Pcrs, ReadLog, ReadLogError, Start};
+use crate::pcr_replay::{Bank, Pcrs, ReadLog, Start};
 use crate::support::test::Fail;
 use crate::test_support::samples::MACHINE_LOG;
 use crate::test_support::{Refusing, bytes, holds, takes_memory};
-use crate::uefi_tcg::{LastEntry, Log, LogEntry};
+use crate::uefi_tcg::{LastEntry, Log, LogEntry, LogError};
 
 /// Returns whether the PCRs of two replays hold the same.
 fn are_same(one: &Pcrs, other: &Pcrs) -> bool {
@@ -74,17 +74,14 @@ fn what_was_read_leads_to_what_the_log_does() -> Result<(), Fail> {
 #[test]
 fn a_log_with_more_rows_than_are_allowed_is_not_read() -> Result<(), Fail> {
     let bytes = bytes(MACHINE_LOG)?;
-    let log = Log::new(bytes.as_slice(), LastEntry::Unknown);
-    let Ok(read) = ReadLog::with_most_rows(log, 4) else {
-        return Err(Fail::new("the log isn't read"));
+    let Ok(log) = Log::read_with(bytes.as_slice(), LastEntry::Unknown, 4) else {
+        return Err(Fail::new("the log isn't whole"));
     };
+    let read = ReadLog::new(log)?;
     holds("the header", read.header().is_some())?;
     holds("the end", read.end() == bytes.len())?;
-    let error = ReadLog::with_most_rows(log, 3).err();
-    holds(
-        "three rows",
-        error == Some(ReadLogError::TooManyAlgorithms(4)),
-    )
+    let error = Log::read_with(bytes.as_slice(), LastEntry::Unknown, 3).err();
+    holds("three rows", error == Some(LogError::TooManyAlgorithms(4)))
 }
 
 /// Returns how many events a log has, if no request is refused.

@@ -1,6 +1,6 @@
 // @generated from proved source. It is not edited.
 
-use crate::pcr_replay::{Fault, NoQuoteDigest, ReadLogError, Undetermined};
+use crate::pcr_replay::{Fault, NoQuoteDigest, Undetermined};
 use crate::support::alloc::AllocError;
 use core::error::Error;
 use crate::support::test::Fail;

@@ -1,0 +1,3 @@
+// @generated from proved source. It is not edited.
+
+mod from_text;
