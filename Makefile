@@ -6,7 +6,7 @@ SECONDS = 600
 PROGRAMS = uefi_list uefi_boot uefi_audit
 TO = $(DESTDIR)$(PREFIX)
 MADE = out/install
-.PHONY: all check test try edits install fuzz plant bench rust help $(PROGRAMS:%=build-%)
+.PHONY: all check test try edits install dist fuzz plant bench rust help $(PROGRAMS:%=build-%)
 
 all: $(PROGRAMS:%=build-%)  ## the programs, proved and built; until then ./uefi_list, ./uefi_boot and ./uefi_audit run their source, unproved
 
@@ -17,7 +17,7 @@ check:  ## the one test command: every proof and test from scratch
 	@./check
 
 test:  ## what needs no toolchain: the packages' tests, the programs by cargo, pages. CRATE=uefi_path: a crate's tests and rows, proved
-	@$(if $(CRATE),tools/run_tests prove '$(CRATE)',rust/checks/cargo_tests.py && tools/pages)
+	@$(if $(CRATE),tools/run_tests prove '$(CRATE)',rust/checks/cargo_tests.py && tools/pages && tools/standards)
 
 try:  ## CRATE=uefi_path: a crate's tests and rows, run without a proof
 	@tools/run_tests try '$(CRATE)'
@@ -32,6 +32,9 @@ install: all  ## PREFIX=/usr/local DESTDIR=: programs, manual pages, completions
 	tools/manual $(MADE)/share
 	install -m 755 $(foreach it,$(PROGRAMS),crates/$(it)/out/$(it)) $(MADE)/bin
 	mkdir -p '$(TO)' && cp -R $(MADE)/. '$(TO)' && rm -rf $(MADE)
+
+dist:  ## the files of a release, in out/dist: `tools/dist` says which, and how to try it without a proof
+	@tools/dist out/dist
 
 fuzz:  ## SECONDS=600: mutated inputs, by the programs and by plain Rust
 	@tests/outside/fuzz $(SECONDS)

@@ -159,6 +159,8 @@ class Function:
         self.is_public = block.is_public or bool(is_named_public)
         self.types = {*re.findall(r"\b[A-Z]\w+", signature), block.owner} - {None}
         self.variables = {*re.findall(r"\b(\w+)\s*:", signature), *re.findall(r"\b[A-Z]\b", signature)}
+        # A ghost value is named in a clause of its own.
+        self.variables |= {*re.findall(r"\bghost\s+(\w+)\s*:", text[start : self.end])}
         self.buffers = re.findall(r"\b(\w+)\s*:\s*&\s*(?:'\w+\s+)?mut\s+\[u8\]", signature)
 
     def unsaid_buffers(self):
@@ -185,7 +187,7 @@ def function_at(text, start):
     signature, clauses = None, []
     while True:
         # A semicolon in brackets is that of an array.
-        stop = re.compile(r"\b(?:requires|ensures)\b|\{|;(?![^\[\]]*\])").search(text, i)
+        stop = re.compile(r"\b(?:requires|ensures|ghost)\b|\{|;(?![^\[\]]*\])").search(text, i)
         signature = signature or text[start : stop.start()]
         if stop[0] == ";":
             return signature, clauses, stop.end()

@@ -8,6 +8,8 @@
   tools/toolchain.py clear             removes the built libraries, unless all are of their present sources
   tools/toolchain.py keep              marks the libraries that `rt ci` proved, so that `rt` doesn't prove them again
   tools/toolchain.py TOOL ARGUMENT..   runs a tool of LLVM, as `clang`, `ld.lld` or `llvm-objdump`
+
+The variable CLANG names the program that is run as `clang`.
 """
 import contextlib
 import importlib
@@ -177,13 +179,24 @@ def own_tools():
     return program if folder and os.access(program, os.X_OK) else None
 
 
+def chosen(name):
+    """Returns the program that the variable CLANG names, if that is the tool, or None."""
+    return os.environ.get("CLANG") or None if name == "clang" else None
+
+
 def lacking(names):
-    """Returns the tools of LLVM that neither the toolchain nor PATH has."""
-    return [] if own_tools() else [it for it in names if not shutil.which(it)]
+    """Returns the tools of LLVM that neither the toolchain nor PATH has, and the one of CLANG if it can't be run."""
+    own = own_tools()
+    return [it for it in names if not (shutil.which(chosen(it)) if chosen(it) else own or shutil.which(it))]
 
 
 def run_tool(name, *arguments, **how):
-    """Runs a tool of LLVM: the toolchain's, or else the system's."""
+    """Runs a tool of LLVM: the one that CLANG names, the toolchain's, or else the system's."""
+    if program := chosen(name):
+        if not shutil.which(program):
+            say(f"CLANG is {program}, which can't be run")
+            sys.exit(2)
+        return subprocess.run([program, *arguments], **how)
     if program := own_tools():
         return subprocess.run([name, *arguments], executable=program, **how)
     others = map(shutil.which, OTHERS.get(name, [name, name.removeprefix("llvm-")]))

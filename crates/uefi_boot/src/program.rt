@@ -12,6 +12,9 @@ use std::process::ExitCode;
 use std::rt::{Env, Files};
 use std::{env, io};
 
+/// The line that `--version` prints.
+const VERSION_LINE: &str = "uefi_boot 0.1.0\n";
+
 /// Returns the words after the program's name. If one isn't UTF-8, they ask for nothing.
 fn read_words<R: Env + AllocGlobal>(rt: &R) -> Result<Vec<String>, Failure> {
     match env::args(rt) {
@@ -57,19 +60,34 @@ fn listing<R: Files + Input + AllocGlobal + Clone + Drop>(
     Ok((text, outcome))
 }
 
-/// Judges the words, and prints what they ask for.
+/// Returns whether the words ask for the version.
+fn asks_version(words: &[String]) -> bool {
+    matches!(words, [word] if word.as_str() == "--version")
+}
+
+/// Prints a text.
+fn print_text<R: Print>(rt: &R, text: &str) -> Result<(), Failure> {
+    match io::writer(rt).write_all(text.as_bytes()) {
+        Ok(()) => Ok(()),
+        Err(error) => Err(Failure::Output(error)),
+    }
+}
+
+/// Judges the words, and prints what they ask for, or the version.
 fn print_listing<R: Files + Env + Input + Print + AllocGlobal + Clone + Drop>(
     rt: &R,
 ) -> Result<Outcome, Failure> {
     let words = read_words(rt)?;
+    if asks_version(words.as_slice()) {
+        print_text(rt, VERSION_LINE)?;
+        return Ok(Outcome::Listed);
+    }
     let Some(request) = Request::from_words(words.as_slice()) else {
         return Err(Failure::OtherWords);
     };
     let (text, outcome) = listing(rt, &request)?;
-    match io::writer(rt).write_all(text.as_bytes()) {
-        Ok(()) => Ok(outcome),
-        Err(error) => Err(Failure::Output(error)),
-    }
+    print_text(rt, text.as_str())?;
+    Ok(outcome)
 }
 
 /// Runs the program, says on standard error why it failed, and returns its exit status.
