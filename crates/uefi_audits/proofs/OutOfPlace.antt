@@ -6,7 +6,7 @@ use Rattle.std.proofs.lemmas.List.{get_or-map, length-map, take_more}
 use Rattle.std.proofs.lemmas.List.Folds.{list_any-append}
 use Rattle.std.specs.List.{list_any}
 use Rattle.uefi_audits.specs.Numbered.{numbered}
-use Rattle.uefi_audits.specs.OutOfPlace.{Misplaced, if_broken, if_misplaced, is_separated, misplaced_in, rule_at, separates}
+use Rattle.uefi_audits.specs.OutOfPlace.{Misplaced, if_broken, if_misplaced, is_separated, rule_at, separates}
 use Rattle.uefi_audits.specs.declared.check.result.CheckedEntry.{CheckedEntry}
 use Rattle.uefi_audits.specs.private.Counting.{finding_of}
 use Rattle.uefi_audits.proofs.Numbered.{text_appended}

@@ -1,7 +1,8 @@
 -- What `uefi_audit diff --json` prints of two logs: an object that says what is compared, and one for each difference.
-use Rattle.std.specs.Prelude.{ℕ, List, [], ◌∷◌, ◌++◌, flat_map, map, codes, Option, None, Some}
+use Rattle.std.specs.Prelude.{ℕ, List, [], ◌∷◌, ◌++◌, flat_map, map, codes}
 use Rattle.audit_text.specs.json.Json.{Json, null, number, string, array, object}
-use Rattle.uefi_audits.specs.diff.Differences.{Change, Difference}
+use Rattle.uefi_audits.specs.diff.Differences.{Change, Difference, EventDifference, event_differences}
+use Rattle.uefi_audits.specs.diff.Differences.{event_changed, event_moved, event_only_new, event_only_old}
 use Rattle.uefi_audits.specs.diff.Numbered.{Numbered, pcr_of}
 use Rattle.audit_text.specs.ComparedLogs.{Logs}
 use Rattle.audit_text.specs.json.Algorithm.{algorithm_json}
@@ -29,46 +30,23 @@ difference_json kind pcr old new =
     ∷ (codes "old", old)
     ∷ (codes "pcr", number pcr) ∷ [])
 
--- An event of the old log and its counterpart in the new one; and an event that one log alone has.
+-- An event of each log, or of one of them.
 abbrev pub pair_json : Logs → List ℕ → Change → Json
 pair_json logs kind change =
     difference_json kind (pcr_of change.old) (entry_json logs.old_name change.old) (entry_json logs.new_name change.new)
 
-abbrev pub old_json : Logs → Numbered → Json
-old_json logs found = difference_json (codes "only_old") (pcr_of found) (entry_json logs.old_name found) null
+unfoldable pub event_difference_json : Logs → EventDifference → Json
+event_difference_json logs (event_changed change) = pair_json logs (codes "changed") change
+event_difference_json logs (event_only_old found) =
+    difference_json (codes "only_old") (pcr_of found) (entry_json logs.old_name found) null
+event_difference_json logs (event_only_new found) =
+    difference_json (codes "only_new") (pcr_of found) null (entry_json logs.new_name found)
+event_difference_json logs (event_moved change) = pair_json logs (codes "moved") change
 
-abbrev pub new_json : Logs → Numbered → Json
-new_json logs found = difference_json (codes "only_new") (pcr_of found) null (entry_json logs.new_name found)
-
--- Their lines.
-abbrev pub pair_json_line : Logs → List ℕ → Change → List ℕ
-pair_json_line logs kind change = json_line (pair_json logs kind change)
-
-abbrev pub changed_json_lines : Logs → List Change → List ℕ
-changed_json_lines logs changed = flat_map (pair_json_line logs (codes "changed")) changed
-
-abbrev pub old_json_line : Logs → Numbered → List ℕ
-old_json_line logs found = json_line (old_json logs found)
-
-abbrev pub old_json_lines : Logs → List Numbered → List ℕ
-old_json_lines logs only = flat_map (old_json_line logs) only
-
-abbrev pub new_json_line : Logs → Numbered → List ℕ
-new_json_line logs found = json_line (new_json logs found)
-
-abbrev pub new_json_lines : Logs → List Numbered → List ℕ
-new_json_lines logs only = flat_map (new_json_line logs) only
-
--- That of the first event whose order is another, if there is one.
-unfoldable pub moved_json_lines : Logs → Option Change → List ℕ
-moved_json_lines logs None = []
-moved_json_lines logs (Some change) = pair_json_line logs (codes "moved") change
-
--- The lines of a PCR, and all lines.
-unfoldable pub pcr_json_lines : Logs → Difference → List ℕ
-pcr_json_lines logs difference =
-    changed_json_lines logs difference.changed ++ (old_json_lines logs difference.only_old
-    ++ (new_json_lines logs difference.only_new ++ moved_json_lines logs difference.moved))
+-- All lines.
+abbrev pub event_difference_line : Logs → EventDifference → List ℕ
+event_difference_line logs difference = json_line (event_difference_json logs difference)
 
 abbrev pub difference_json_lines : Logs → List Difference → List ℕ
-difference_json_lines logs differences = json_line (compared_json logs) ++ flat_map (pcr_json_lines logs) differences
+difference_json_lines logs differences =
+    json_line (compared_json logs) ++ flat_map (event_difference_line logs) (event_differences differences)

@@ -11,7 +11,8 @@ use Rattle.uefi_tcg.specs.EventTypes.{event_type_name}
 use Rattle.uefi_tcg.specs.v2.Event.{Event}
 use Rattle.uefi_audits.specs.content.Content.{Content, loader_text, tagged, variable, image}
 use Rattle.uefi_audits.specs.diff.Counterparts.{Name, command_name, has_uncovered_name}
-use Rattle.uefi_audits.specs.diff.Differences.{Change, Difference}
+use Rattle.uefi_audits.specs.diff.Differences.{Change, Difference, EventDifference, event_differences}
+use Rattle.uefi_audits.specs.diff.Differences.{event_changed, event_moved, event_only_new, event_only_old}
 use Rattle.uefi_audits.specs.diff.Numbered.{Numbered, pcr_of, type_of}
 
 -- The name of an event's type, or its number.
@@ -104,25 +105,16 @@ unfoldable pub earlier_line : Logs → Change → List ℕ
 earlier_line logs change =
     place_text logs change.old ++ earlier_text logs.new_name change.new
 
-unfoldable pub moved_line : Logs → Option Change → List ℕ
-moved_line logs None = []
-moved_line logs (Some change) = earlier_line logs change
-
--- The lines of a PCR.
-abbrev pub changed_lines : Logs → List Change → List ℕ
-changed_lines logs changed = flat_map (changed_line logs) changed
-
-abbrev pub only_lines : Logs → List Numbered → List ℕ
-only_lines logs only = flat_map (only_line logs) only
-
 -- The logs the other way round.
 abbrev pub reversed : Logs → Logs
 reversed logs = record { old_name = logs.new_name; new_name = logs.old_name; algorithms = logs.algorithms }
 
-unfoldable pub pcr_lines : Logs → Difference → List ℕ
-pcr_lines logs difference =
-    changed_lines logs difference.changed ++ (only_lines logs difference.only_old
-    ++ (only_lines (reversed logs) difference.only_new ++ moved_line logs difference.moved))
+-- The line of a difference.
+unfoldable pub difference_line : Logs → EventDifference → List ℕ
+difference_line logs (event_changed change) = changed_line logs change
+difference_line logs (event_only_old found) = only_line logs found
+difference_line logs (event_only_new found) = only_line (reversed logs) found
+difference_line logs (event_moved change) = earlier_line logs change
 
 -- The algorithms whose digests are compared; and all lines.
 unfoldable pub algorithm_words : List ℕ → List ℕ
@@ -134,4 +126,5 @@ compared_line algorithms =
     else codes "compared:" ++ (algorithm_words algorithms ++ codes "\n")
 
 abbrev pub difference_lines : Logs → List Difference → List ℕ
-difference_lines logs differences = compared_line logs.algorithms ++ flat_map (pcr_lines logs) differences
+difference_lines logs differences =
+    compared_line logs.algorithms ++ flat_map (difference_line logs) (event_differences differences)

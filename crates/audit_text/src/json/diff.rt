@@ -1,9 +1,9 @@
-ghost use Rattle.std.specs.Prelude.{flat_map, map, IfOk, OnOk, option_map};
+ghost use Rattle.std.specs.Prelude.{flat_map, map, IfOk, OnOk};
 ghost use Rattle.uefi_base.specs.Appending.{AppendsText};
 ghost use Rattle.audit_text.specs.ComparedLogs.{logs_of};
 ghost use Rattle.audit_text.specs.json.Algorithm.{algorithm_json};
-ghost use Rattle.audit_text.specs.json.Diff.{changed_json_lines, compared_json, difference_json, difference_json_lines, entry_json, moved_json_lines, new_json_line, new_json_lines, old_json_line, old_json_lines, pair_json_line, pcr_json_lines};
-ghost use Rattle.uefi_audits.specs.diff.Views.{change_of, difference_of, numbered_of, numbers_of};
+ghost use Rattle.audit_text.specs.json.Diff.{compared_json, difference_json, difference_json_lines, entry_json, event_difference_json, event_difference_line, pair_json};
+ghost use Rattle.uefi_audits.specs.diff.Views.{change_of, difference_of, event_difference_of, numbered_of, numbers_of};
 ghost use Rattle.audit_text.specs.json.Json.{Json};
 ghost use Rattle.audit_text.specs.private.JsonValues.{AreValuesOf, IsValueOf};
 
@@ -13,7 +13,9 @@ use crate::json::event::event_json;
 use crate::json::line::push_line;
 use serde_json::{Map, Value, json, put};
 use std::alloc::{AllocError, Global};
-use uefi_audits::diff::{EventChange, NumberedEntry, PcrDifference};
+use uefi_audits::diff::{
+    EventChange, EventDifference, NumberedEntry, PcrDifference, event_differences,
+};
 use uefi_tcg::AlgorithmId;
 
 /// Appends how the events of two logs differ, as lines of JSON: an object that says what is
@@ -53,7 +55,8 @@ pub fn push_differences_json(
 {
     let compared = compared_json(alloc, logs)?;
     push_line(text, alloc, &compared)?;
-    push_pcrs(text, alloc, logs, differences)
+    let differences = event_differences(alloc, differences)?;
+    push_each(text, alloc, logs, differences.as_slice())
 }
 
 /// Returns what is compared.
@@ -77,152 +80,72 @@ fn each_algorithm(alloc: Global, algorithms: &[AlgorithmId]) -> Result<Vec<Value
     Ok(values)
 }
 
-/// Appends how the events of PCRs differ.
-fn push_pcrs(
+/// Appends a line for each of these differences.
+fn push_each(
     text: &mut String,
     alloc: Global,
     logs: &ComparedLogs<'_>,
-    differences: &[PcrDifference<'_>],
+    differences: &[EventDifference<'_, '_>],
 ) -> Result<(), AllocError>
-    ensures { OnOk result (AppendsText text.old text.new
-        (flat_map (pcr_json_lines (logs_of logs.now)) (map difference_of differences.now))) }
+    ensures { OnOk result (AppendsText text.old text.new (flat_map
+        (event_difference_line (logs_of logs.now)) (map event_difference_of differences.now))) }
 {
     for difference in differences {
-        push_pcr(text, alloc, logs, difference)?;
+        let value = event_difference_json(alloc, logs, difference)?;
+        push_line(text, alloc, &value)?;
     }
     Ok(())
 }
 
-/// Appends how the events of a PCR differ.
-#[tactic(auto, unfolding(crate::specs::json::Diff::pcr_json_lines))]
-fn push_pcr(
-    text: &mut String,
+/// Returns a difference in an event.
+#[tactic(auto, unfolding(crate::specs::json::Diff::event_difference_json))]
+fn event_difference_json(
     alloc: Global,
     logs: &ComparedLogs<'_>,
-    difference: &PcrDifference<'_>,
-) -> Result<(), AllocError>
-    ensures { OnOk result (AppendsText text.old text.new
-        (pcr_json_lines (logs_of logs.now) (difference_of difference.now))) }
+    difference: &EventDifference<'_, '_>,
+) -> Result<Value, AllocError>
+    ensures { IfOk result (IsValueOf
+        (event_difference_json (logs_of logs.now) (event_difference_of difference.now))) }
 {
-    push_changed(text, alloc, logs, difference.changed.as_slice())?;
-    push_only_old(text, alloc, logs, difference.only_old.as_slice())?;
-    push_only_new(text, alloc, logs, difference.only_new.as_slice())?;
-    push_moved(text, alloc, logs, &difference.moved)
-}
-
-/// Appends a line for each of these events that differ from their counterparts.
-fn push_changed(
-    text: &mut String,
-    alloc: Global,
-    logs: &ComparedLogs<'_>,
-    changed: &[EventChange<'_>],
-) -> Result<(), AllocError>
-    ensures { OnOk result (AppendsText text.old text.new
-        (changed_json_lines (logs_of logs.now) (map change_of changed.now))) }
-{
-    for change in changed {
-        push_pair(text, alloc, logs, "changed", change)?;
-    }
-    Ok(())
-}
-
-/// Appends the line of the first event whose order is another; nothing if there is none.
-#[tactic(auto, unfolding(crate::specs::json::Diff::moved_json_lines))]
-fn push_moved(
-    text: &mut String,
-    alloc: Global,
-    logs: &ComparedLogs<'_>,
-    moved: &Option<EventChange<'_>>,
-) -> Result<(), AllocError>
-    ensures { OnOk result (AppendsText text.old text.new
-        (moved_json_lines (logs_of logs.now) (option_map change_of moved.now))) }
-{
-    match moved {
-        Some(change) => push_pair(text, alloc, logs, "moved", change),
-        None => Ok(()),
+    match difference {
+        EventDifference::Changed(change) => pair_json(alloc, logs, "changed", change),
+        EventDifference::OnlyOld(found) => {
+            let old = entry_json(alloc, logs.old_name, found)?;
+            difference_json(
+                alloc,
+                "only_old",
+                found.entry.event.pcr_index().0,
+                old,
+                Value::Null,
+            )
+        }
+        EventDifference::OnlyNew(found) => {
+            let new = entry_json(alloc, logs.new_name, found)?;
+            difference_json(
+                alloc,
+                "only_new",
+                found.entry.event.pcr_index().0,
+                Value::Null,
+                new,
+            )
+        }
+        EventDifference::Moved(change) => pair_json(alloc, logs, "moved", change),
     }
 }
 
-/// Appends the line of an event and its counterpart.
-fn push_pair(
-    text: &mut String,
+/// Returns an event and its counterpart.
+fn pair_json(
     alloc: Global,
     logs: &ComparedLogs<'_>,
     kind: &str,
     change: &EventChange<'_>,
-) -> Result<(), AllocError>
-    ensures { OnOk result (AppendsText text.old text.new
-        (pair_json_line (logs_of logs.now) kind.now (change_of change.now))) }
+) -> Result<Value, AllocError>
+    ensures { IfOk result
+        (IsValueOf (pair_json (logs_of logs.now) kind.now (change_of change.now))) }
 {
-    let pcr = change.old.entry.event.pcr_index().0;
     let old = entry_json(alloc, logs.old_name, &change.old)?;
     let new = entry_json(alloc, logs.new_name, &change.new)?;
-    let value = difference_json(alloc, kind, pcr, old, new)?;
-    push_line(text, alloc, &value)
-}
-
-/// Appends a line for each of these events of the old log, which the new one doesn't have.
-fn push_only_old(
-    text: &mut String,
-    alloc: Global,
-    logs: &ComparedLogs<'_>,
-    only: &[NumberedEntry<'_>],
-) -> Result<(), AllocError>
-    ensures { OnOk result (AppendsText text.old text.new
-        (old_json_lines (logs_of logs.now) (map numbered_of only.now))) }
-{
-    for found in only {
-        push_old(text, alloc, logs, found)?;
-    }
-    Ok(())
-}
-
-/// Appends the line of an event of the old log, which the new one doesn't have.
-fn push_old(
-    text: &mut String,
-    alloc: Global,
-    logs: &ComparedLogs<'_>,
-    found: &NumberedEntry<'_>,
-) -> Result<(), AllocError>
-    ensures { OnOk result (AppendsText text.old text.new
-        (old_json_line (logs_of logs.now) (numbered_of found.now))) }
-{
-    let pcr = found.entry.event.pcr_index().0;
-    let old = entry_json(alloc, logs.old_name, found)?;
-    let value = difference_json(alloc, "only_old", pcr, old, Value::Null)?;
-    push_line(text, alloc, &value)
-}
-
-/// Appends a line for each of these events of the new log, which the old one doesn't have.
-fn push_only_new(
-    text: &mut String,
-    alloc: Global,
-    logs: &ComparedLogs<'_>,
-    only: &[NumberedEntry<'_>],
-) -> Result<(), AllocError>
-    ensures { OnOk result (AppendsText text.old text.new
-        (new_json_lines (logs_of logs.now) (map numbered_of only.now))) }
-{
-    for found in only {
-        push_new(text, alloc, logs, found)?;
-    }
-    Ok(())
-}
-
-/// Appends the line of an event of the new log, which the old one doesn't have.
-fn push_new(
-    text: &mut String,
-    alloc: Global,
-    logs: &ComparedLogs<'_>,
-    found: &NumberedEntry<'_>,
-) -> Result<(), AllocError>
-    ensures { OnOk result (AppendsText text.old text.new
-        (new_json_line (logs_of logs.now) (numbered_of found.now))) }
-{
-    let pcr = found.entry.event.pcr_index().0;
-    let new = entry_json(alloc, logs.new_name, found)?;
-    let value = difference_json(alloc, "only_new", pcr, Value::Null, new)?;
-    push_line(text, alloc, &value)
+    difference_json(alloc, kind, change.old.entry.event.pcr_index().0, old, new)
 }
 
 /// Returns what differs: what kind of difference it is, its PCR, and what each log has.

@@ -3,14 +3,14 @@
 ghost use Rattle.std.specs.Prelude.{◌≡◌, flat_map, map, OnOk};
 ghost use Rattle.uefi_base.specs.Appending.{AppendsText};
 ghost use Rattle.audit_text.specs.ComparedLogs.{logs_of};
-ghost use Rattle.audit_text.specs.text.Differences.{changed_lines, difference_lines, only_lines, pcr_lines, reversed};
-ghost use Rattle.uefi_audits.specs.diff.Views.{change_of, difference_of, numbered_of};
+ghost use Rattle.audit_text.specs.text.Differences.{difference_line, difference_lines, reversed};
+ghost use Rattle.uefi_audits.specs.diff.Views.{difference_of, event_difference_of};
 
 pub use self::change::push_change;
-use self::lines::{push_changed_line, push_compared_line, push_moved_line, push_only_line};
+use self::lines::{push_changed_line, push_compared_line, push_earlier_line, push_only_line};
 use crate::ComparedLogs;
 use std::alloc::{AllocError, Global};
-use uefi_audits::diff::{EventChange, NumberedEntry, PcrDifference};
+use uefi_audits::diff::{EventDifference, PcrDifference, event_differences};
 
 mod change;
 mod lines;
@@ -44,56 +44,43 @@ pub fn push_differences(
         (difference_lines (logs_of logs.now) (map difference_of differences.now))) }
 {
     push_compared_line(text, logs.algorithms)?;
-    push_pcrs(text, alloc, logs, differences)
+    let differences = event_differences(alloc, differences)?;
+    push_each(text, alloc, logs, differences.as_slice())
 }
 
-/// Appends how the events of PCRs differ.
-fn push_pcrs(
+/// Appends a line for each of these differences.
+fn push_each(
     text: &mut String,
     alloc: Global,
     logs: &ComparedLogs<'_>,
-    differences: &[PcrDifference<'_>],
+    differences: &[EventDifference<'_, '_>],
 ) -> Result<(), AllocError>
-    ensures { OnOk result (AppendsText text.old text.new
-        (flat_map (pcr_lines (logs_of logs.now)) (map difference_of differences.now))) }
+    ensures { OnOk result (AppendsText text.old text.new (flat_map
+        (difference_line (logs_of logs.now)) (map event_difference_of differences.now))) }
 {
     for difference in differences {
-        push_pcr(text, alloc, logs, difference)?;
+        push_difference(text, alloc, logs, difference)?;
     }
     Ok(())
 }
 
-/// Appends how the events of a PCR differ.
-#[tactic(auto, unfolding(crate::specs::text::Differences::pcr_lines))]
-fn push_pcr(
+/// Appends the line of a difference.
+#[tactic(auto, unfolding(crate::specs::text::Differences::difference_line))]
+fn push_difference(
     text: &mut String,
     alloc: Global,
     logs: &ComparedLogs<'_>,
-    difference: &PcrDifference<'_>,
+    difference: &EventDifference<'_, '_>,
 ) -> Result<(), AllocError>
     ensures { OnOk result (AppendsText text.old text.new
-        (pcr_lines (logs_of logs.now) (difference_of difference.now))) }
+        (difference_line (logs_of logs.now) (event_difference_of difference.now))) }
 {
-    push_changed(text, alloc, logs, difference.changed.as_slice())?;
-    push_only(text, alloc, logs, difference.only_old.as_slice())?;
-    push_only(text, alloc, &reversed(logs), difference.only_new.as_slice())?;
-    push_moved_line(text, alloc, logs, &difference.moved)
-}
-
-/// Appends a line for each of these events that differ from their counterparts.
-fn push_changed(
-    text: &mut String,
-    alloc: Global,
-    logs: &ComparedLogs<'_>,
-    changed: &[EventChange<'_>],
-) -> Result<(), AllocError>
-    ensures { OnOk result (AppendsText text.old text.new
-        (changed_lines (logs_of logs.now) (map change_of changed.now))) }
-{
-    for change in changed {
-        push_changed_line(text, alloc, logs, change)?;
+    match difference {
+        EventDifference::Changed(change) => push_changed_line(text, alloc, logs, change),
+        EventDifference::OnlyOld(found) => push_only_line(text, alloc, logs, found),
+        EventDifference::OnlyNew(found) => push_only_line(text, alloc, &reversed(logs), found),
+        EventDifference::Moved(change) => push_earlier_line(text, alloc, logs, change),
     }
-    Ok(())
 }
 
 /// Returns the logs the other way round.
@@ -105,20 +92,4 @@ fn reversed<'a>(logs: &ComparedLogs<'a>) -> ComparedLogs<'a>
         new_name: logs.old_name,
         algorithms: logs.algorithms,
     }
-}
-
-/// Appends a line for each of these events of the old log, which the new one doesn't have.
-fn push_only(
-    text: &mut String,
-    alloc: Global,
-    logs: &ComparedLogs<'_>,
-    only: &[NumberedEntry<'_>],
-) -> Result<(), AllocError>
-    ensures { OnOk result (AppendsText text.old text.new
-        (only_lines (logs_of logs.now) (map numbered_of only.now))) }
-{
-    for found in only {
-        push_only_line(text, alloc, logs, found)?;
-    }
-    Ok(())
 }

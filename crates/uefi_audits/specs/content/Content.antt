@@ -1,5 +1,5 @@
 -- What the data of an event say, by the event's type (TCG PC Client Platform Firmware Profile 1.06, 10.4.1).
-use Rattle.std.specs.Prelude.{ℕ, ◌≡◌, ◌==◌, ◌&&◌, nat_le, List, [], ◌∷◌, length, Option, Some, None, Bool, true, false, if◌then◌else◌}
+use Rattle.std.specs.Prelude.{ℕ, ◌≡◌, ◌==◌, ◌&&◌, nat_le, List, length, Option, Some, None, Bool, true, false, if◌then◌else◌}
 use Rattle.std.specs.List.{list_all}
 use Rattle.uefi_base.specs.LittleEndian.{u32_at}
 use Rattle.uefi_path.specs.Node.{Node}

@@ -1,7 +1,7 @@
 -- How the events of two logs differ, by PCRs. An event is compared with its counterpart: by PCR, type, the digests of some
 -- algorithms, and its data, or by digests alone. Its index and its offset aren't compared.
 use Rattle.std.specs.Prelude.{ℕ, zero, suc, Bool, true, false, ◌≡◌, ◌≢◌, ◌⊎◌, ◌<◌}
-use Rattle.std.specs.Prelude.{List, [], ◌∷◌, ◌++◌, map, slice_get, Option, None, Some, option_map, option_to_list, if◌then◌else◌}
+use Rattle.std.specs.Prelude.{List, [], ◌∷◌, ◌++◌, flat_map, map, slice_get, Option, None, Some, option_map, option_to_list, if◌then◌else◌}
 use Rattle.std.specs.List.{filter_map}
 use Rattle.uefi_tcg.specs.v2.Event.{Digest, Event}
 use Rattle.pcr_replay.specs.Replay.{digests_by}
@@ -105,6 +105,22 @@ pub record Difference : Type 0 where
   pub only_old : List Numbered
   pub only_new : List Numbered
   pub moved : Option Change
+
+-- A difference in one event: it isn't the same as its counterpart, one log alone has it, or it is the first whose order is another.
+pub data EventDifference : Type 0 where
+  event_changed : Change → EventDifference
+  event_only_old : Numbered → EventDifference
+  event_only_new : Numbered → EventDifference
+  event_moved : Change → EventDifference
+
+-- Those of a PCR, and those of all PCRs, in order.
+unfoldable pub pcr_events : Difference → List EventDifference
+pcr_events difference =
+    map event_changed difference.changed ++ (map event_only_old difference.only_old
+    ++ (map event_only_new difference.only_new ++ map event_moved (option_to_list difference.moved)))
+
+abbrev pub event_differences : List Difference → List EventDifference
+event_differences all = flat_map pcr_events all
 
 -- By what events are counterparts, in order: by their data, and then, of the events that are left, by their names. If data
 -- aren't compared, by their digests alone.

@@ -1,15 +1,17 @@
 -- What values stand for: words that contracts name them by.
 use Rattle.std.specs.Prelude.{ℕ, List, map, option_map}
-use Rattle.std.specs.Borrow.{Bor}
 use Rattle.uefi_tcg.specs.LogViews.{entry_of}
 use Rattle.uefi_tcg.specs.declared.algorithm_id.AlgorithmId.{AlgorithmId}
 use Rattle.uefi_audits.specs.content.Views.{content_of}
 use Rattle.uefi_audits.specs.diff.Counterparts.{Name}
-use Rattle.uefi_audits.specs.diff.Differences.{Change, Difference, Parts}
+use Rattle.uefi_audits.specs.diff.Differences as differences
+use Rattle.uefi_audits.specs.diff.Differences.{Change, Difference, Parts, event_changed, event_moved, event_only_new, event_only_old}
 use Rattle.uefi_audits.specs.diff.Numbered.{Numbered}
 use Rattle.uefi_audits.specs.declared.diff.compared.ComparedParts.{ComparedParts}
 use Rattle.uefi_audits.specs.declared.diff.difference.EventChange.{EventChange}
 use Rattle.uefi_audits.specs.declared.diff.difference.PcrDifference.{PcrDifference}
+use Rattle.uefi_audits.specs.declared.diff.events.EventDifference.{EventDifference}
+use Rattle.uefi_audits.specs.declared.diff.events.EventDifference.TheVariants.{Changed, Moved, OnlyNew, OnlyOld}
 use Rattle.uefi_audits.specs.declared.diff.names.EventName.{EventName}
 use Rattle.uefi_audits.specs.declared.diff.pcr.NumberedEntry.{NumberedEntry}
 
@@ -41,3 +43,10 @@ difference_of difference = record {
   only_new = map numbered_of difference.only_new.items;
   moved = option_map change_of difference.moved;
 }
+
+-- A difference in one event.
+abbrev pub event_difference_of : EventDifference → differences.EventDifference
+event_difference_of (Changed change) = event_changed (change_of change.now)
+event_difference_of (OnlyOld found) = event_only_old (numbered_of found.now)
+event_difference_of (OnlyNew found) = event_only_new (numbered_of found.now)
+event_difference_of (Moved change) = event_moved (change_of change.now)

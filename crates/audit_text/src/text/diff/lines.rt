@@ -1,7 +1,7 @@
-ghost use Rattle.std.specs.Prelude.{OnOk, option_map};
+ghost use Rattle.std.specs.Prelude.{OnOk};
 ghost use Rattle.uefi_base.specs.Appending.{AppendsText};
 ghost use Rattle.audit_text.specs.ComparedLogs.{logs_of};
-ghost use Rattle.audit_text.specs.text.Differences.{algorithm_words, at_text, changed_line, command_words, compared_line, cover_text, covered_words, digest_words, digests_text, earlier_line, earlier_text, label_words, moved_line, name_text, name_words, only_line, place_text, places_text, start_text, type_text};
+ghost use Rattle.audit_text.specs.text.Differences.{algorithm_words, at_text, changed_line, command_words, compared_line, cover_text, covered_words, digest_words, digests_text, earlier_line, earlier_text, label_words, name_text, name_words, only_line, place_text, places_text, start_text, type_text};
 ghost use Rattle.audit_text.specs.words.Said.{said};
 ghost use Rattle.uefi_audits.specs.content.Views.{content_of};
 ghost use Rattle.uefi_audits.specs.diff.Views.{change_of, name_of, numbered_of, numbers_of};
@@ -96,26 +96,9 @@ pub(crate) fn push_only_line(
     writeln!(text, " isn't in {new_name}")
 }
 
-/// Appends the line of the first event whose order is another; nothing if there is none.
-#[tactic(auto, unfolding(crate::specs::text::Differences::moved_line))]
-pub(crate) fn push_moved_line(
-    text: &mut String,
-    alloc: Global,
-    logs: &ComparedLogs<'_>,
-    moved: &Option<EventChange<'_>>,
-) -> Result<(), AllocError>
-    ensures { OnOk result (AppendsText text.old text.new
-        (moved_line (logs_of logs.now) (option_map change_of moved.now))) }
-{
-    match moved {
-        Some(change) => push_earlier_line(text, alloc, logs, change),
-        None => Ok(()),
-    }
-}
-
 /// Appends the line of an event that comes earlier in the new log.
 #[tactic(auto, unfolding(crate::specs::text::Differences::earlier_line))]
-fn push_earlier_line(
+pub(crate) fn push_earlier_line(
     text: &mut String,
     alloc: Global,
     logs: &ComparedLogs<'_>,

@@ -1,4 +1,4 @@
-use Rattle.std.proofs.Common.{◌≡◌, ◌∙◌, ap, arith, map}
+use Rattle.std.proofs.Common.{◌≡◌, ◌∙◌, arith, map}
 use Rattle.std.specs.List.{flat_map, range_with_len}
 use Rattle.uefi_audits.specs.OutOfPlace.{judged_pcrs, misplaced_in}
 use Rattle.uefi_audits.specs.private.Counting.{finding_of}

@@ -1,5 +1,4 @@
-use Rattle.std.proofs.Common.{◌≡◌, List, arith, map, refl, rules, subst}
-use Rattle.std.specs.Prelude.{false, true}
+use Rattle.std.proofs.Common.{List, arith, map, rules, subst}
 use Rattle.uefi_audits.specs.declared.diff.changed.EventPair.{EventPair}
 use Rattle.uefi_audits.specs.diff.Differences.{AreChanged}
 use Rattle.uefi_audits.specs.diff.Views.{change_of, parts_of}

@@ -1,4 +1,4 @@
-use Rattle.std.proofs.Common.{◌≡◌, ◌∙◌, arith, map, refl, sym}
+use Rattle.std.proofs.Common.{◌≡◌, ◌∙◌, arith, map, sym}
 use Rattle.std.proofs.lemmas.List.{length-map}
 use Rattle.uefi_audits.specs.diff.Differences.{compared_at}
 use Rattle.uefi_audits.specs.diff.Views.{parts_of}
