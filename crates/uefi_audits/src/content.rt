@@ -9,7 +9,7 @@ ghost use Rattle.pcr_replay.specs.Start.{locality_in};
 ghost use Rattle.uefi_tcg.specs.LogViews.{event_of};
 ghost use Rattle.uefi_tcg.specs.declared.uintn_size.UintnSize.{UintnSize};
 ghost use Rattle.uefi_tcg.specs.v2.Views.{header_of};
-ghost use Rattle.uefi_audits.specs.content.Content.{BlobContent, ImageContent, NoActionContent, PostCodeContent, Says, are_printed, is_printed, label_content, separator_content, text_content};
+ghost use Rattle.uefi_audits.specs.content.Content.{BlobContent, ImageContent, NoActionContent, PostCodeContent, Says, are_printed, is_printed, text_content};
 ghost use Rattle.uefi_audits.specs.content.Form.{OfDescribedBlob, OfGpt, OfImage, form};
 ghost use Rattle.uefi_audits.specs.content.Header.{ReadsHeader};
 ghost use Rattle.uefi_audits.specs.content.Views.{content_of};
@@ -82,7 +82,8 @@ pub fn read_content<'a>(event: &LogEvent<'a>, uintn_size: UintnSize) -> EventCon
     match event.event_type() {
         EventType::POST_CODE => post_code_content(bytes),
         EventType::NO_ACTION => no_action_content(bytes),
-        EventType::SEPARATOR => separator_content(bytes),
+        EventType::SEPARATOR if bytes.len() == 4 => EventContent::Separator(u32_at(bytes, 0)),
+        EventType::SEPARATOR => EventContent::Unread,
         EventType::ACTION
         | EventType::OMIT_BOOT_DEVICE_EVENTS
         | EventType::EFI_ACTION
@@ -102,7 +103,8 @@ pub fn read_content<'a>(event: &LogEvent<'a>, uintn_size: UintnSize) -> EventCon
         EventType::EFI_GPT_EVENT | EventType::EFI_GPT_EVENT2 => gpt_content(bytes, uintn_size),
         EventType::EFI_PLATFORM_FIRMWARE_BLOB => blob_content(bytes),
         EventType::EFI_VARIABLE_AUTHORITY => authority_content(bytes),
-        _ => label_content(bytes),
+        _ if bytes.is_empty() => EventContent::Unread,
+        _ => text_content(bytes),
     }
 }
 
@@ -131,16 +133,6 @@ fn header_in(bytes: &[u8]) -> Option<EventLogHeader<'_>>
     EventLogHeader::read(bytes)
 }
 
-/// Returns the number of a separator.
-fn separator_content(bytes: &[u8]) -> EventContent<'_>
-    ensures { content_of result ≡ separator_content bytes.now }
-{
-    if bytes.len() != 4 {
-        return EventContent::Unread;
-    }
-    EventContent::Separator(u32_at(bytes, 0))
-}
-
 /// Returns the text that data are, if each byte of them is a printed character or a space.
 fn text_content(bytes: &[u8]) -> EventContent<'_>
     ensures { content_of result ≡ text_content bytes.now }
@@ -153,16 +145,6 @@ fn text_content(bytes: &[u8]) -> EventContent<'_>
     } else {
         EventContent::Unread
     }
-}
-
-/// Returns the text that data of another type are, such as `ACPI DATA`, unless there are none.
-fn label_content(bytes: &[u8]) -> EventContent<'_>
-    ensures { content_of result ≡ label_content bytes.now }
-{
-    if bytes.is_empty() {
-        return EventContent::Unread;
-    }
-    text_content(bytes)
 }
 
 /// Returns the text that data are, or the blob.

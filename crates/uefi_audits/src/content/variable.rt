@@ -10,7 +10,7 @@ ghost use Rattle.uefi_tcg.specs.declared.uintn_size.UintnSize.{UintnSize};
 ghost use Rattle.uefi_audits.specs.content.Content.{HasValue, Says};
 ghost use Rattle.uefi_audits.specs.content.Form.{OfAuthority, OfVariable};
 ghost use Rattle.uefi_audits.specs.content.Value.{OfBootOption, OfBootOrder, OfSignature, OfSignatureLists};
-ghost use Rattle.uefi_audits.specs.content.Value.{authority_form, global_form, has_digit, has_unit, is_boot_option_name, is_upper_hex_digit, value_form};
+ghost use Rattle.uefi_audits.specs.content.Value.{authority_form, global_form, has_digit, has_unit, is_boot_option_name, value_form};
 ghost use Rattle.uefi_audits.specs.content.Views.{content_of};
 
 use crate::content::EventContent;
@@ -191,25 +191,12 @@ fn is_boot_option_name(name: &UnalignedSlice<'_>) -> bool
 fn has_unit(name: &UnalignedSlice<'_>, index: usize, unit: u16) -> bool
     ensures { result ≡ has_unit (slice_units name.now) index unit }
 {
-    match name.get(index) {
-        Some(found) => found == unit,
-        None => false,
-    }
+    name.get(index) == Some(unit)
 }
 
 /// Returns whether a name has an upper-case hex digit at an index.
 fn has_digit(name: &UnalignedSlice<'_>, index: usize) -> bool
     ensures { result ≡ has_digit (slice_units name.now) index }
 {
-    match name.get(index) {
-        Some(found) => is_upper_hex_digit(found),
-        None => false,
-    }
-}
-
-/// Returns whether a unit is an upper-case hex digit.
-fn is_upper_hex_digit(unit: u16) -> bool
-    ensures { result ≡ is_upper_hex_digit unit }
-{
-    matches!(unit, 0x30..=0x39 | 0x41..=0x46)
+    matches!(name.get(index), Some(0x30..=0x39 | 0x41..=0x46))
 }
