@@ -8,7 +8,7 @@ ghost use Rattle.std.specs.Prelude.{◌≡◌, ◌++◌, ◌||◌, codes, map, l
 ghost use Rattle.std.specs.List.{filter, flat_map, list_any, range_with_len};
 ghost use Rattle.uefi_tcg.specs.LogViews.{entry_of, event_of};
 ghost use Rattle.pcr_replay.specs.Measured.{is_hash_of};
-ghost use Rattle.uefi_audits.specs.OutOfPlace.{are_faults, exit_text, exits, has_exit, if_broken, is_above_registers, is_exit, is_confidential, is_of_bios, is_of_uefi, misplaced, misplaced_in, misplaced_of, remarks_in, remarks_of, separates, without_separator};
+ghost use Rattle.uefi_audits.specs.OutOfPlace.{are_faults, exit_text, has_exit, if_broken, is_above_registers, is_exit, is_of_bios, misplaced, misplaced_in, misplaced_of, remarks_in, remarks_of, separates, without_separator};
 ghost use Rattle.uefi_audits.specs.private.Counting.{finding_of};
 
 pub use self::rule::Rule;
@@ -62,7 +62,7 @@ impl<A: Allocator> Remarks<'_, A> {
     }
 }
 
-/// Returns the remarks on the places of these events.
+/// Returns the remarks on the places of these events; none if the log is of confidential computing.
 #[tactic(auto, unfolding(crate::specs::OutOfPlace::remarks_if))]
 pub(crate) fn remarks_on<'a, A: Allocator + Copy>(
     alloc: A,
@@ -70,7 +70,7 @@ pub(crate) fn remarks_on<'a, A: Allocator + Copy>(
 ) -> Result<Remarks<'a, A>, AllocError>
     ensures { IfOk result (λ remarks. remarks_of remarks ≡ remarks_in (map finding_of all.now)) }
 {
-    if is_confidential(all) {
+    if has_exit(all, 2) && !has_pcr_above_registers(all) {
         return Ok(Remarks {
             events: Vec::new(alloc),
             unseparated: Vec::new(alloc),
@@ -86,39 +86,19 @@ pub(crate) fn remarks_on<'a, A: Allocator + Copy>(
     })
 }
 
-/// Returns whether a log is of confidential computing, whose registers aren't PCRs.
-fn is_confidential(all: &[CheckedEntry<'_>]) -> bool
-    ensures { result ≡ is_confidential (map finding_of all.now) }
-{
-    has_exit(all, 2) && !has_pcr_above_registers(all)
-}
-
 /// Returns whether an event extends a PCR whose number no register of confidential computing has.
 fn has_pcr_above_registers(all: &[CheckedEntry<'_>]) -> bool
     ensures { result ≡ list_any is_above_registers (map finding_of all.now) }
 {
-    all.iter().any(|it| is_above_registers(it))
-}
-
-/// Returns whether an event extends such a PCR.
-fn is_above_registers(it: &CheckedEntry<'_>) -> bool
-    ensures { result ≡ is_above_registers (finding_of it.now) }
-{
-    it.pcr() > LAST_REGISTER && !it.has_type(EventType::NO_ACTION)
+    all.iter().any(|it| it.pcr() > LAST_REGISTER && !it.has_type(EventType::NO_ACTION))
 }
 
 /// Returns whether an event of a PCR says that the operating system takes over.
 fn has_exit(all: &[CheckedEntry<'_>], pcr: u32) -> bool
     ensures { result ≡ has_exit pcr (map finding_of all.now) }
 {
-    all.iter().any(|it| exits(pcr, it))
-}
-
-/// Returns whether an event of a PCR says so.
-fn exits(pcr: u32, it: &CheckedEntry<'_>) -> bool
-    ensures { result ≡ exits pcr (finding_of it.now) }
-{
-    it.pcr() == pcr && is_exit(&it.entry.event)
+    all.iter()
+        .any(|it| it.pcr() == pcr && is_exit(&it.entry.event))
 }
 
 /// Returns whether an event's digest of some bank says so.
@@ -139,14 +119,7 @@ fn is_exit_in(bank: Bank, event: &LogEvent<'_>) -> bool
 fn is_of_bios(all: &[CheckedEntry<'_>]) -> bool
     ensures { result ≡ is_of_bios (map finding_of all.now) }
 {
-    !has_type_of_uefi(all)
-}
-
-/// Returns whether an event has a type of UEFI.
-fn has_type_of_uefi(all: &[CheckedEntry<'_>]) -> bool
-    ensures { result ≡ list_any is_of_uefi (map finding_of all.now) }
-{
-    all.iter().any(|it| it.entry.event.event_type().0 >= EventType::EFI_EVENT_BASE.0)
+    !all.iter().any(|it| it.entry.event.event_type().0 >= EventType::EFI_EVENT_BASE.0)
 }
 
 /// Returns the PCRs of firmware without a separator.

@@ -1,7 +1,7 @@
 //! The rules for an event's place, by its PCR, its type, and what came before it.
 
 ghost use Rattle.std.specs.Prelude.{◌≡◌, ◌||◌, ◌&&◌, ◌==◌, not};
-ghost use Rattle.uefi_audits.specs.OutOfPlace.{broken_rule, command_rule, firmware_rule, has_type, is_of_type, is_separator_value, may_follow, pcr_of, rule_at, separator_rule};
+ghost use Rattle.uefi_audits.specs.OutOfPlace.{command_rule, firmware_rule, has_type, is_of_type, may_follow, pcr_of, rule_at, separator_rule};
 ghost use Rattle.uefi_audits.specs.private.Counting.{finding_of};
 
 use super::types::{types_after_separator, types_in, types_of_bios};
@@ -33,7 +33,7 @@ pub(super) const JUDGED_PCRS: u32 = 9;
 /// Returns the rule that an event of PCR 0 to 8 breaks, the first one, if it is of this PCR.
 /// `is_of_bios` says whether its log is that of a BIOS, and `is_separated` whether the PCR's separator
 /// comes before it.
-#[tactic(auto, unfolding(crate::specs::OutOfPlace::rule_at))]
+#[tactic(auto, unfolding(crate::specs::OutOfPlace::rule_at, crate::specs::OutOfPlace::broken_rule))]
 pub(super) fn rule_at(
     pcr: u32,
     is_of_bios: bool,
@@ -42,18 +42,7 @@ pub(super) fn rule_at(
 ) -> Option<Rule>
     ensures { result ≡ rule_at pcr is_of_bios is_separated (finding_of it.now) }
 {
-    if it.pcr() != pcr {
-        return None;
-    }
-    broken_rule(is_of_bios, is_separated, it)
-}
-
-/// Returns the rule that an event of PCR 0 to 8 breaks.
-#[tactic(auto, unfolding(crate::specs::OutOfPlace::broken_rule))]
-fn broken_rule(is_of_bios: bool, is_separated: bool, it: &CheckedEntry<'_>) -> Option<Rule>
-    ensures { result ≡ broken_rule is_of_bios is_separated (finding_of it.now) }
-{
-    if it.has_type(EventType::NO_ACTION) {
+    if it.pcr() != pcr || it.has_type(EventType::NO_ACTION) {
         return None;
     }
     if it.pcr() < FIRMWARE_PCRS {
@@ -90,17 +79,10 @@ fn separator_rule(is_separated: bool, bytes: &[u8]) -> Option<Rule>
     if is_separated {
         return Some(Rule::SecondSeparator);
     }
-    if is_separator_value(bytes) {
+    if bytes == [0; 4].as_slice() || bytes == [0xff; 4].as_slice() {
         return None;
     }
     Some(Rule::SeparatorValue)
-}
-
-/// Returns whether these are the data of a separator: 0 or 0xFFFFFFFF, in four bytes.
-fn is_separator_value(bytes: &[u8]) -> bool
-    ensures { result ≡ is_separator_value bytes.now }
-{
-    bytes == [0; 4].as_slice() || bytes == [0xff; 4].as_slice()
 }
 
 /// Returns whether an event may follow the separator of its PCR.
