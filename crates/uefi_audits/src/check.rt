@@ -7,7 +7,7 @@ ghost use Rattle.std.specs.Prelude.{◌≡◌, ◌↔◌, ◌++◌, IfOk, IsTrue
 ghost use Rattle.std.specs.List.{list_all};
 ghost use Rattle.uefi_tcg.specs.LogViews.{event_of};
 ghost use Rattle.pcr_replay.specs.Banks.{all_banks};
-ghost use Rattle.uefi_audits.specs.Check.{agrees, are_hashes, has_digests, IsChecked, IsFirstMatch, MatchesBy, MatchesNoneOf, MayMeasureOther, MayNameFile};
+ghost use Rattle.uefi_audits.specs.Check.{agrees, are_hashes, has_digests, IsChecked, IsFirstMatch, MatchesBy, MatchesNoneOf, MayMeasureOther};
 ghost use Rattle.uefi_audits.specs.declared.check.form.Form.TheVariants.{Command, Narrowed, VariableValue, WithoutNul};
 
 pub use self::counts::TypeCounts;
@@ -86,14 +86,8 @@ fn first_match<A: Allocator + Copy>(
 fn may_measure_other(event: &LogEvent<'_>) -> bool
     ensures { IsTrue result ↔ MayMeasureOther (event_of event.now) }
 {
-    may_describe(event.event_type()) || may_name_file(event)
-}
-
-/// Returns whether an event has the type of a text, and the text is no command.
-fn may_name_file(event: &LogEvent<'_>) -> bool
-    ensures { IsTrue result ↔ MayNameFile (event_of event.now) }
-{
-    event.event_type() == EventType::IPL && command_in(event.event_data()).is_none()
+    may_describe(event.event_type())
+        || (event.event_type() == EventType::IPL && command_in(event.event_data()).is_none())
 }
 
 /// Returns whether an event's digests are the hash of what its data measure in a form.
@@ -171,14 +165,6 @@ fn has_digests(event: &LogEvent<'_>) -> bool
 fn all_agree(event: &LogEvent<'_>, first: &[u8], second: &[u8]) -> bool
     ensures { result ≡ list_all (agrees (first.now ++ second.now) (event_of event.now)) all_banks }
 {
-    Bank::ALL
-        .iter()
-        .all(|bank| agrees(event, *bank, first, second))
-}
-
-/// Returns whether the digest of a bank is the hash of these two parts, if the event has one.
-fn agrees(event: &LogEvent<'_>, bank: Bank, first: &[u8], second: &[u8]) -> bool
-    ensures { result ≡ agrees (first.now ++ second.now) (event_of event.now) bank }
-{
-    !has_digest(bank, event) || is_hash_of(bank, event, first, second)
+    Bank::ALL.iter().all(|bank| !has_digest(*bank, event)
+        || is_hash_of(*bank, event, first, second))
 }

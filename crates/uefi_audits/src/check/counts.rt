@@ -1,8 +1,6 @@
 //! How many events of each type match.
 
 ghost use Rattle.std.specs.Prelude.{◌≡◌, map, slice_index, IfOk, OnOk};
-ghost use Rattle.std.specs.BTreeMap.{IsOrdered, values};
-ghost use Rattle.std.specs.Ordering.{nat_cmp};
 ghost use Rattle.uefi_audits.specs.CheckResult.{AreCounts, form_index};
 ghost use Rattle.uefi_audits.specs.private.Counting.{counted, counts_at, finding_of, no_counts, CountsOneMore, HasRoom};
 
@@ -80,17 +78,6 @@ pub(super) fn counts_of<A: Allocator + Copy>(
         let it = &all[index];
         count(&mut types, it.entry.event.event_type(), it.checked)?;
     }
-    in_order(alloc, &types)
-}
-
-/// Returns the counts in the order of the types' numbers.
-fn in_order<A: Allocator>(
-    alloc: A,
-    types: &BTreeMap<u32, TypeCounts, A>,
-) -> Result<Vec<TypeCounts, A>, AllocError>
-    ensures order { IsOrdered nat_cmp types.now }
-    ensures counts { IfOk result (λ counts. counts.items ≡ values types.now) }
-{
     types.values().copied().collect(alloc)
 }
 

@@ -4,7 +4,7 @@ ghost use Rattle.std.specs.Prelude.{◌≡◌, ◌++◌, map, IfOk, OnOk};
 ghost use Rattle.std.specs.Option.{option_map};
 ghost use Rattle.uefi_tcg.specs.LogViews.{entry_of, event_of};
 ghost use Rattle.uefi_audits.specs.CheckResult.{IsCheckResult, if_mismatch, mismatch_of, mismatches_in};
-ghost use Rattle.uefi_audits.specs.Findings.{AreFindings, IsFound, is_covered, is_covered_by, is_mismatch};
+ghost use Rattle.uefi_audits.specs.Findings.{AreFindings, IsFound, is_covered};
 ghost use Rattle.uefi_audits.specs.OutOfPlace.{has_type, pcr_of};
 ghost use Rattle.uefi_audits.specs.private.Counting.{finding_of};
 
@@ -138,16 +138,11 @@ fn is_covered(event: &LogEvent<'_>, covered: Option<&[NamedPcr]>) -> bool
         ≡ is_covered (option_map (λ pcrs. pcrs.now) covered.entry) (event_of event.now) }
 {
     match covered {
-        Some(pcrs) => pcrs.iter().any(|it| is_covered_by(event, *it)),
+        Some(pcrs) => pcrs
+            .iter()
+            .any(|it| extends(event, it.pcr) && has_digest(it.bank, event)),
         None => true,
     }
-}
-
-/// Returns whether an event extends a PCR, and has a digest of its bank.
-fn is_covered_by(event: &LogEvent<'_>, it: NamedPcr) -> bool
-    ensures { result ≡ is_covered_by (event_of event.now) it }
-{
-    extends(event, it.pcr) && has_digest(it.bank, event)
 }
 
 /// Returns the events that match in none of the forms of their types.
@@ -175,17 +170,10 @@ fn push_if_mismatch<'a, A: Allocator>(
     ensures { OnOk result (map mismatch_of found.new.items
         ≡ map mismatch_of found.old.items ++ if_mismatch index (finding_of it.now)) }
 {
-    if !is_mismatch(it.checked) {
+    if it.checked != Some(Checked::MatchesNone) {
         return Ok(());
     }
     let entry = it.entry;
     found.push(Mismatch { index, entry })?;
     Ok(())
-}
-
-/// Returns whether an event is covered and matches in none of the forms of its type.
-fn is_mismatch(checked: Option<Checked>) -> bool
-    ensures { result ≡ is_mismatch checked }
-{
-    matches!(checked, Some(Checked::MatchesNone))
 }

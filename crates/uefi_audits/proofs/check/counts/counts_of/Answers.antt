@@ -1,4 +1,7 @@
-use Rattle.std.proofs.Common.{arith}
+use Rattle.std.proofs.Common.{◌≡◌, arith, rules}
+use Rattle.std.specs.BTreeMap.{IsOrdered, values}
+use Rattle.std.specs.Ordering.{nat_cmp}
+use Rattle.std.specs.Prelude.{IfOk}
 use Rattle.std.proofs.lemmas.Result.{IfOk-weaker}
 use Rattle.uefi_audits.proofs.Counting.{all_counted, has_room, one_more_of}
 use Rattle.uefi_audits.proofs.check.counts.counts_of.Goals as goal
@@ -16,7 +19,8 @@ loop-index-preserved g c =
 
 pub returns : goal.returns
 returns g c =
-    IfOk-weaker c.in_order.result _ _
+    let order : IsOrdered nat_cmp c.loop-index.types = search rules in
+    let counts : IfOk c.collect.result (λ counts. counts.items ≡ values c.loop-index.types) = search rules in
+    IfOk-weaker c.collect.result _ _
     (λ counts is. all_counted c.loop-index.types c.args.all.now c.loop-index.index counts.items
-    (omega (arith, c.loop-index-test.false)) c.in_order.ensures.order c.loop-index.invariant is)
-    c.in_order.ensures.counts
+    (omega (arith, c.loop-index-test.false)) order c.loop-index.invariant is) counts
