@@ -1,7 +1,6 @@
 ghost use Rattle.std.specs.Prelude.{◌≡◌, map, IfOk};
 ghost use Rattle.uefi_tcg.specs.LogViews.{entry_of};
-ghost use Rattle.uefi_audits.specs.verify.Compared.{held_covering, judged_pcrs, judged_pcrs_of, judged_quote, judged_quote_of, pcrs_agree, quote_agrees, quote_covering};
-ghost use Rattle.uefi_audits.specs.verify.Coverage.{covering_of};
+ghost use Rattle.uefi_audits.specs.verify.Compared.{judged_pcrs, judged_pcrs_of, judged_quote, judged_quote_of, pcrs_agree, quote_agrees};
 ghost use Rattle.uefi_audits.specs.verify.Quote.{received_of};
 
 use crate::verify::coverage::Coverage;
@@ -45,7 +44,10 @@ impl<A: Allocator + Copy> ComparedPcrs<A> {
     {
         let held = selected_pcrs(alloc, stated, selections)?;
         let verdict = Verdict::new(alloc, entries, held.as_slice(), locality)?;
-        let coverage = held_coverage(alloc, entries, stated, selections)?;
+        let covered = named_pcrs(alloc, held.as_slice())?;
+        let named = named_pcrs(alloc, stated)?;
+        let missing = missing_pcrs(alloc, named.as_slice(), selections)?;
+        let coverage = Coverage::new(alloc, entries, covered, missing)?;
         Ok(ComparedPcrs {
             held,
             verdict,
@@ -61,23 +63,6 @@ impl<A: Allocator> ComparedPcrs<A> {
     {
         self.verdict.is_agreement() && self.coverage.is_whole()
     }
-}
-
-/// Returns of which PCRs a verdict speaks on those of the stated ones that are selected.
-fn held_coverage<A: Allocator + Copy>(
-    alloc: A,
-    entries: &[LogEntry<'_>],
-    stated: &[HeldPcr],
-    selections: &[PcrSelection],
-) -> Result<Coverage<A>, AllocError>
-    ensures { IfOk result (λ coverage. covering_of coverage
-        ≡ held_covering (map entry_of entries.now) stated.now selections.now) }
-{
-    let held = selected_pcrs(alloc, stated, selections)?;
-    let covered = named_pcrs(alloc, held.as_slice())?;
-    let named = named_pcrs(alloc, stated)?;
-    let missing = missing_pcrs(alloc, named.as_slice(), selections)?;
-    Coverage::new(alloc, entries, covered, missing)
 }
 
 /// A quote beside what the events of a log lead to.
@@ -107,7 +92,9 @@ impl<'a, A: Allocator + Copy> ComparedQuote<'a, A> {
             (map entry_of entries.now) (received_of received.now) selections.now) }
     {
         let verdict = QuoteVerdict::new(alloc, entries, received, locality)?;
-        let coverage = quote_coverage(alloc, entries, received, selections)?;
+        let covered = covered_pcrs(alloc, &received.quote)?;
+        let missing = missing_pcrs(alloc, covered.as_slice(), selections)?;
+        let coverage = Coverage::new(alloc, entries, covered, missing)?;
         Ok(ComparedQuote { verdict, coverage })
     }
 }
@@ -120,19 +107,4 @@ impl<A: Allocator> ComparedQuote<'_, A> {
     {
         self.verdict.agrees() && self.coverage.is_whole()
     }
-}
-
-/// Returns of which PCRs a verdict on a quote speaks.
-fn quote_coverage<A: Allocator + Copy>(
-    alloc: A,
-    entries: &[LogEntry<'_>],
-    received: &ReceivedQuote<'_>,
-    selections: &[PcrSelection],
-) -> Result<Coverage<A>, AllocError>
-    ensures { IfOk result (λ coverage. covering_of coverage
-        ≡ quote_covering (map entry_of entries.now) (received_of received.now) selections.now) }
-{
-    let covered = covered_pcrs(alloc, &received.quote)?;
-    let missing = missing_pcrs(alloc, covered.as_slice(), selections)?;
-    Coverage::new(alloc, entries, covered, missing)
 }
