@@ -11,7 +11,7 @@ use Rattle.uefi_audits.specs.verify.Selection.{AreItems, IsCut, IsItem, IsPcrNum
 use Rattle.uefi_audits.proofs.verify.Cuts.{cuts_agree, no_cut}
 
 -- A text has one number.
-one_number : (text : List ℕ) (one other : ℕ) → IsPcrNumber text one → IsPcrNumber text other → one ≡ other
+pub one_number : (text : List ℕ) (one other : ℕ) → IsPcrNumber text one → IsPcrNumber text other → one ≡ other
 one_number text one other is also = let same = sym is.number ∙ also.number in cc
 
 -- An item without a `-` that is no number is none.

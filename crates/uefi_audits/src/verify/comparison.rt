@@ -50,10 +50,7 @@ pub fn led_to<'a>(
     ensures { option_map (λ outcome. outcome_of outcome.now) result
         ≡ led_to (map bank_outcomes_of replays.now) held.now }
 {
-    let Some(pcrs) = pcrs_of(held.bank, replays) else {
-        return None;
-    };
-    pcrs.outcome(PcrIndex(held.pcr))
+    pcrs_of(held.bank, replays)?.outcome(PcrIndex(held.pcr))
 }
 
 /// Returns the PCRs of a bank.

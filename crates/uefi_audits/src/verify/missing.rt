@@ -1,5 +1,5 @@
 ghost use Rattle.std.specs.Prelude.{◌≡◌, ◌++◌, IfOk, OnOk};
-ghost use Rattle.uefi_audits.specs.verify.Missing.{asked_pcrs, is_among, is_asked, is_asked_by, is_missing, is_stated, missing_of, missing_pcrs};
+ghost use Rattle.uefi_audits.specs.verify.Missing.{asked_pcrs, is_among, is_asked, is_missing, is_stated, missing_of, missing_pcrs};
 
 use crate::verify::named::NamedPcr;
 use crate::verify::selection::PcrSelection;
@@ -74,16 +74,9 @@ fn is_missing(selections: &[PcrSelection], stated: &[NamedPcr], bank: Bank, pcr:
 fn is_asked(selections: &[PcrSelection], stated: &[NamedPcr], bank: Bank, pcr: u32) -> bool
     ensures { result ≡ is_asked selections.now stated.now bank pcr }
 {
-    selections
-        .iter()
-        .any(|it| is_asked_by(it, stated, bank, pcr))
-}
-
-/// Returns whether a PCR is asked for by a selection.
-fn is_asked_by(selection: &PcrSelection, stated: &[NamedPcr], bank: Bank, pcr: u32) -> bool
-    ensures { result ≡ is_asked_by selection.now stated.now bank pcr }
-{
-    selection.is_selected(bank, pcr) && (selection.bank().is_some() || is_stated(stated, bank))
+    selections.iter().any(|it| {
+        it.is_selected(bank, pcr) && (it.bank().is_some() || is_stated(stated, bank))
+    })
 }
 
 /// Returns whether a PCR of a bank is among these.

@@ -81,7 +81,8 @@ impl<'a> QuoteVerdict<'a> {
     {
         let start = KnownStart::of(entries, locality);
         if start.is_stated {
-            return QuoteVerdict::at(alloc, entries, received, start);
+            let replays = quoted_replays(alloc, entries, &received.quote, &start.start)?;
+            return Ok(QuoteVerdict::of(received, replays.as_slice(), start));
         }
         QuoteVerdict::at_assumed(alloc, entries, received)
     }
@@ -102,20 +103,6 @@ impl<'a> QuoteVerdict<'a> {
     {
         let quote = &self.received.quote;
         pcrs.iter().all(|pcr| is_covered(quote, bank, *pcr))
-    }
-
-    /// Returns the verdict in a TPM that was started so.
-    fn at<A: Allocator + Copy>(
-        alloc: A,
-        entries: &[LogEntry<'_>],
-        received: &ReceivedQuote<'a>,
-        start: KnownStart,
-    ) -> Result<QuoteVerdict<'a>, AllocError>
-        ensures { IfOk result (λ verdict. quote_judgement_of verdict
-            ≡ judged_at (map entry_of entries.now) (received_of received.now) start) }
-    {
-        let replays = quoted_replays(alloc, entries, &received.quote, &start.start)?;
-        Ok(QuoteVerdict::of(received, replays.as_slice(), start))
     }
 
     /// Returns the verdict in a TPM of which nobody states how it was started.

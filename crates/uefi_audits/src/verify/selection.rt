@@ -120,15 +120,8 @@ pub fn selected_pcrs<A: Allocator>(
 {
     held.iter()
         .copied()
-        .filter(|pcr| is_selected(selections, pcr))
+        .filter(|pcr| selections.is_empty() || one_selects(selections, pcr))
         .collect(alloc)
-}
-
-/// Returns whether a PCR that a TPM held is selected.
-fn is_selected(selections: &[PcrSelection], held: &HeldPcr) -> bool
-    ensures { result ≡ is_selected selections.now held.now }
-{
-    selections.is_empty() || one_selects(selections, held)
 }
 
 /// Returns whether one of the selections selects a PCR that a TPM held.
@@ -198,17 +191,6 @@ fn range_in(item: &[u8]) -> Option<Range>
             last: pcr,
         });
     };
-    range_between(first, last)
-}
-
-/// Returns the range between two numbers of PCRs.
-fn range_between(first: &[u8], last: &[u8]) -> Option<Range>
-    ensures { MatchOption result
-        ((range : Range) → IsPcrNumber first.now range.first → IsPcrNumber last.now range.last
-        → range.first ≤ range.last → ⊥)
-        (λ range. IsPcrNumber first.now range.first × IsPcrNumber last.now range.last
-        × (range.first ≤ range.last)) }
-{
     let Some(first) = pcr_number(first) else {
         return None;
     };
@@ -226,9 +208,7 @@ fn pcr_number(text: &[u8]) -> Option<u32>
     ensures { MatchOption result ((pcr : ℕ) → IsPcrNumber text.now pcr → ⊥)
         (IsPcrNumber text.now) }
 {
-    let Some(number) = number_of(text) else {
-        return None;
-    };
+    let number = number_of(text)?;
     if number as usize >= PCR_COUNT {
         return None;
     }

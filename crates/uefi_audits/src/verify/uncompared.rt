@@ -1,6 +1,6 @@
 ghost use Rattle.std.specs.Prelude.{◌≡◌, map, IfOk};
 ghost use Rattle.uefi_tcg.specs.LogViews.{entry_of, event_of};
-ghost use Rattle.uefi_audits.specs.verify.Uncompared.{extends, is_compared, is_extended, is_uncompared, uncompared_pcrs};
+ghost use Rattle.uefi_audits.specs.verify.Uncompared.{extends, is_compared, is_extended, uncompared_pcrs};
 
 use crate::verify::named::NamedPcr;
 use pcr_replay::PCR_COUNT;
@@ -22,15 +22,8 @@ pub fn uncompared_pcrs<A: Allocator>(
         found.items ≡ uncompared_pcrs (map entry_of entries.now) compared.now) }
 {
     (0..PCR_COUNT as u32)
-        .filter(|pcr| is_uncompared(entries, compared, *pcr))
+        .filter(|pcr| is_extended(entries, *pcr) && !is_compared(compared, *pcr))
         .collect(alloc)
-}
-
-/// Returns whether an event extends a PCR, and no bank of it is compared.
-fn is_uncompared(entries: &[LogEntry<'_>], compared: &[NamedPcr], pcr: u32) -> bool
-    ensures { result ≡ is_uncompared (map entry_of entries.now) compared.now pcr }
-{
-    is_extended(entries, pcr) && !is_compared(compared, pcr)
 }
 
 /// Returns whether an event of a log extends a PCR.

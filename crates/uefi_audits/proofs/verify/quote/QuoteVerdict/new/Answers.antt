@@ -1,4 +1,4 @@
-use Rattle.std.proofs.Common.{map}
+use Rattle.std.proofs.Common.{map, rules}
 use Rattle.std.proofs.lemmas.Result.{IfOk-weaker}
 use Rattle.uefi_tcg.specs.LogViews.{entry_of}
 use Rattle.uefi_audits.specs.verify.Quote.{quote_judgement_of, received_of}
@@ -7,15 +7,13 @@ use Rattle.uefi_audits.proofs.verify.quote.QuoteVerdict.new.Goals as goal
 
 pub returns-then-start-clause-verdict : goal.returns-then-start-clause-verdict
 returns-then-start-clause-verdict g c =
-    IfOk-weaker c.at.result _ _
-    (λ verdict is. stated_is c.args.locality (map entry_of c.args.entries.now) (received_of c.args.received.now)
-    c.of-start.result (quote_judgement_of verdict) c.of-start.ensures c.if-start.true is) c.at.ensures
+    stated_is c.args.locality (map entry_of c.args.entries.now) (received_of c.args.received.now)
+    c.of-start.result (quote_judgement_of c.of.result) c.of-start.ensures c.if-start.true (search rules)
 
 pub returns-then-start-clause-agreement : goal.returns-then-start-clause-agreement
 returns-then-start-clause-agreement g c =
-    IfOk-weaker c.at.result _ _
-    (λ verdict is. quote_agrees c.args.locality (map entry_of c.args.entries.now) (received_of c.args.received.now)
-    (quote_judgement_of verdict) is) (returns-then-start-clause-verdict g c)
+    quote_agrees c.args.locality (map entry_of c.args.entries.now) (received_of c.args.received.now)
+    (quote_judgement_of c.of.result) (returns-then-start-clause-verdict g c)
 
 pub returns-clause-verdict : goal.returns-clause-verdict
 returns-clause-verdict g c =
