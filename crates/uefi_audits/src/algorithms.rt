@@ -18,17 +18,10 @@ use uefi_tcg::v2::AlgorithmDigestSizes;
 pub fn algorithms_in(alloc: Global, read: &ReadLog<'_>) -> Result<Vec<u16>, AllocError>
     ensures { IfOk result (λ algorithms. AreAlgorithmsIn (table_in read.now) algorithms.items) }
 {
-    match read.header() {
-        Some(header) => in_order(alloc, &header.algorithm_digest_sizes()),
-        None => Ok(Vec::new(alloc)),
-    }
-}
-
-/// Returns the algorithms in a table, each once, in ascending order.
-fn in_order(alloc: Global, table: &AlgorithmDigestSizes<'_>) -> Result<Vec<u16>, AllocError>
-    ensures { IfOk result (λ algorithms. AreAlgorithmsIn (table_of table.now) algorithms.items) }
-{
-    let mut algorithms = each_algorithm(alloc, table)?;
+    let Some(header) = read.header() else {
+        return Ok(Vec::new(alloc));
+    };
+    let mut algorithms = each_algorithm(alloc, &header.algorithm_digest_sizes())?;
     algorithms.sort()?;
     algorithms.dedup();
     Ok(algorithms)

@@ -1,7 +1,6 @@
 ghost use Rattle.std.specs.Prelude.{◌≡◌, IfOk};
 ghost use Rattle.pcr_replay.specs.ReadLogs.{header_in};
 ghost use Rattle.uefi_audits.specs.diff.Algorithms.{algorithms_of, compared_algorithms, is_asked, is_compared};
-ghost use Rattle.uefi_audits.specs.Check.{is_one_of};
 ghost use Rattle.uefi_audits.specs.diff.Views.{numbers_of};
 
 use crate::algorithms::each_algorithm;
@@ -40,7 +39,7 @@ pub fn compared_algorithms(
 fn is_compared(bank: Option<Bank>, news: &[u16], number: u16) -> bool
     ensures { result ≡ is_compared bank news.now number }
 {
-    is_one_of(news, number) && is_asked(bank, number)
+    news.contains(&number) && is_asked(bank, number)
 }
 
 /// Returns whether an algorithm is asked for: it is that of the bank, or no bank is.
@@ -53,23 +52,12 @@ fn is_asked(bank: Option<Bank>, number: u16) -> bool
     }
 }
 
-/// Returns whether a number is one of these.
-fn is_one_of(numbers: &[u16], number: u16) -> bool
-    ensures { result ≡ is_one_of numbers.now number }
-{
-    numbers.iter().any(|it| *it == number)
-}
-
 /// Returns the numbers of the algorithms whose digests the events of a log have.
 fn algorithms_of(alloc: Global, read: &ReadLog<'_>) -> Result<Vec<u16>, AllocError>
     ensures { IfOk result (λ numbers. numbers.items ≡ algorithms_of (header_in read.now)) }
 {
     match read.header() {
         Some(header) => each_algorithm(alloc, &header.algorithm_digest_sizes()),
-        None => {
-            let mut numbers = Vec::new(alloc);
-            numbers.push(AlgorithmId::SHA1.0)?;
-            Ok(numbers)
-        }
+        None => Vec::from_slice(alloc, &[AlgorithmId::SHA1.0]),
     }
 }

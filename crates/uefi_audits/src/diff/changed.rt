@@ -1,5 +1,5 @@
-ghost use Rattle.std.specs.Prelude.{◌≡◌, ◌↔◌, map, IfOk, IsTrue};
-ghost use Rattle.uefi_audits.specs.diff.Differences.{AreChanged, AreSame, changes_in};
+ghost use Rattle.std.specs.Prelude.{◌≡◌, map, IfOk};
+ghost use Rattle.uefi_audits.specs.diff.Differences.{AreChanged, changes_in};
 ghost use Rattle.uefi_audits.specs.diff.Views.{change_of, parts_of};
 ghost use Rattle.uefi_audits.specs.private.diff.Ranks.{pair_of, paired_of};
 
@@ -19,14 +19,6 @@ pub(crate) struct EventPair<'e, 'a> {
 }
 
 impl<'e, 'a> EventPair<'e, 'a> {
-    /// Returns whether the events are the same, as far as these parts tell.
-    fn is_same(&self, alloc: Global, parts: &ComparedParts<'_>) -> Result<bool, AllocError>
-        ensures { IfOk result (λ same. IsTrue same
-            ↔ AreSame (parts_of parts.now) (pair_of self.now)) }
-    {
-        is_same_event(alloc, parts, &self.old.entry.event, &self.new.entry.event)
-    }
-
     /// Returns the pair with copies of its events.
     pub(crate) fn copied(&self) -> EventChange<'a>
         ensures { change_of result ≡ pair_of self.now }
@@ -67,7 +59,7 @@ pub(crate) fn changed<'a>(
 {
     let mut found = Vec::new(alloc);
     for pair in pairs {
-        if !pair.is_same(alloc, parts)? {
+        if !is_same_event(alloc, parts, &pair.old.entry.event, &pair.new.entry.event)? {
             found.push(pair.copied())?;
         }
     }

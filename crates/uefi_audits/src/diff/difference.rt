@@ -118,20 +118,7 @@ fn pcr_difference<'a>(
 {
     let olds = entries_of(alloc, olds, pcr)?;
     let news = entries_of(alloc, news, pcr)?;
-    difference_in(alloc, parts, olds.as_slice(), news.as_slice(), pcr)
-}
-
-/// Returns how these events, which are all of a PCR, differ; `None` if they don't.
-fn difference_in<'a>(
-    alloc: Global,
-    parts: &ComparedParts<'_>,
-    olds: &[&NumberedEntry<'a>],
-    news: &[&NumberedEntry<'a>],
-    pcr: u32,
-) -> Result<Option<PcrDifference<'a>>, AllocError>
-    ensures { IfOk result (λ found. IsDifference (parts_of parts.now) pcr
-        (map numbered_at olds.now) (map numbered_at news.now) (option_map difference_of found)) }
-{
+    let (olds, news) = (olds.as_slice(), news.as_slice());
     if first_difference(alloc, parts, olds, news)?.is_none() {
         return Ok(None);
     }

@@ -1,14 +1,14 @@
-ghost use Rattle.std.specs.Prelude.{◌≡◌, option_map, refl, Some};
+ghost use Rattle.std.specs.Prelude.{◌≡◌, refl, Some};
 ghost use Rattle.uefi_tcg.specs.LogViews.{event_of};
 ghost use Rattle.pcr_replay.specs.Replay.{digests_by};
 ghost use Rattle.std.specs.Ordering.{eq_by_cmp};
 ghost use Rattle.std.specs.Cmp.{eq_by_cmp_equiv, on_equiv, on_per, on_po, on_total, partial_equiv_from_equiv, po};
-ghost use Rattle.uefi_audits.specs.diff.Counterparts.{data_key, digest_key, first_digest, first_or_none, key_cmp, name_key};
+ghost use Rattle.uefi_audits.specs.diff.Counterparts.{first_or_none, key_cmp};
 ghost use Rattle.uefi_audits.specs.diff.Views.{numbered_of};
 ghost use Rattle.uefi_audits.specs.private.diff.Keys.{key_cmp_total, keyed, ranked_cmp, ranked_cmp_total, ranked_of};
 
 use crate::diff::compared::ComparedParts;
-use crate::diff::names::name_in;
+use crate::diff::names::{EventName, name_in};
 use crate::diff::pcr::NumberedEntry;
 use std::cmp::Ordering;
 use uefi_tcg::{AlgorithmId, LogEvent};
@@ -68,63 +68,19 @@ impl<'a> EventKey<'a> {
     pub(crate) fn new(found: &NumberedEntry<'a>, by: KeyedBy) -> EventKey<'a>
         ensures { keyed result ≡ key_by by (numbered_of found.now) }
     {
-        match by {
-            KeyedBy::Data => EventKey::of_data(found),
-            KeyedBy::Name => EventKey::of_name(found),
-            KeyedBy::Digest(algorithm) => EventKey::of_digest(found, algorithm),
-        }
-    }
-
-    /// Returns the key of an event by its data.
-    fn of_data(found: &NumberedEntry<'a>) -> EventKey<'a>
-        ensures { keyed result ≡ data_key (numbered_of found.now) }
-    {
         let event = &found.entry.event;
-        EventKey {
-            pcr_index: event.pcr_index().0,
-            event_type: event.event_type().0,
-            namespace: &[],
-            name: event.event_data(),
-        }
-    }
-
-    /// Returns the key of an event by its name.
-    fn of_name(found: &NumberedEntry<'a>) -> EventKey<'a>
-        ensures { keyed result ≡ name_key (numbered_of found.now) }
-    {
-        let event = &found.entry.event;
-        let name = name_in(&found.content, event.event_data());
+        let name = match by {
+            KeyedBy::Data => EventName::new(&[], event.event_data()),
+            KeyedBy::Name => name_in(&found.content, event.event_data()),
+            KeyedBy::Digest(Some(algorithm)) => EventName::new(&[], first_digest(algorithm, event)),
+            KeyedBy::Digest(None) => EventName::new(&[], &[]),
+        };
         EventKey {
             pcr_index: event.pcr_index().0,
             event_type: event.event_type().0,
             namespace: name.namespace,
             name: name.name,
         }
-    }
-
-    /// Returns the key of an event by its first digest of an algorithm.
-    fn of_digest(found: &NumberedEntry<'a>, algorithm: Option<AlgorithmId>) -> EventKey<'a>
-        ensures { keyed result
-            ≡ digest_key (option_map (λ id. id.0) algorithm) (numbered_of found.now) }
-    {
-        let event = &found.entry.event;
-        EventKey {
-            pcr_index: event.pcr_index().0,
-            event_type: event.event_type().0,
-            namespace: &[],
-            name: digest_by(algorithm, event),
-        }
-    }
-}
-
-/// Returns an event's first digest of an algorithm; nothing if it has none, or if there is none.
-fn digest_by<'a>(algorithm: Option<AlgorithmId>, event: &LogEvent<'a>) -> &'a [u8]
-    ensures { result.now
-        ≡ first_digest (option_map (λ id. id.0) algorithm) (event_of event.now) }
-{
-    match algorithm {
-        Some(algorithm) => first_digest(algorithm, event),
-        None => &[],
     }
 }
 

@@ -2,7 +2,7 @@ ghost use Rattle.std.specs.Prelude.{◌≡◌, drop, take};
 ghost use Rattle.uefi_tcg.specs.LogViews.{event_of};
 ghost use Rattle.tcg_event.specs.Views.{variable_of};
 ghost use Rattle.uefi_audits.specs.content.Views.{content_of};
-ghost use Rattle.uefi_audits.specs.diff.Counterparts.{before, command_name, first_word, has_uncovered_name, name_in, named, variable_name};
+ghost use Rattle.uefi_audits.specs.diff.Counterparts.{before, command_name, has_uncovered_name, name_in, named, variable_name};
 ghost use Rattle.uefi_audits.specs.diff.Views.{name_of};
 
 use crate::check::are_hashes;
@@ -23,7 +23,7 @@ pub struct EventName<'a> {
 
 impl<'a> EventName<'a> {
     /// Returns a name in a namespace.
-    fn new(namespace: &'a [u8], name: &'a [u8]) -> EventName<'a>
+    pub(super) fn new(namespace: &'a [u8], name: &'a [u8]) -> EventName<'a>
         ensures { name_of result ≡ named namespace.now name.now }
     {
         EventName { namespace, name }
@@ -110,7 +110,7 @@ pub fn command_name(bytes: &[u8]) -> EventName<'_>
 {
     if bytes.starts_with(b"grub_cmd: ") {
         let command = bytes_after(bytes, b"grub_cmd: ".len());
-        return EventName::new(b"grub_cmd", first_word(command));
+        return EventName::new(b"grub_cmd", before(before(command, 0), b' '));
     }
     if bytes.starts_with(b"kernel_cmdline: ") {
         return EventName::new(b"kernel_cmdline", &[]);
@@ -119,13 +119,6 @@ pub fn command_name(bytes: &[u8]) -> EventName<'_>
         return EventName::new(b"module_cmdline", &[]);
     }
     EventName::new(&[], &[])
-}
-
-/// Returns the first word of a text, which a space ends, or the NUL.
-fn first_word(text: &[u8]) -> &[u8]
-    ensures { result.now ≡ first_word text.now }
-{
-    before(before(text, 0), b' ')
 }
 
 /// Returns the bytes before the first one of a value; all if there is none.

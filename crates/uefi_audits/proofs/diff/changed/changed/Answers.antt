@@ -15,10 +15,10 @@ loop-pair-preserved c =
       | then-not-branch+in_ok-push w ↦ one_differs parts c.args.pairs.now c.loop-pair.found.items
           c.if-not-branch.found.items c.loop-pair.pair-index c.pair-item.result w.copied.result c.loop-pair-test.true
           c.pair-item.is c.loop-pair.invariant
-          (λ same. let is = c.in_ok-is_same.ensures.1 same in let no = w.if-not-branch.true in cc) w.copied.ensures (search rules)
+          (λ same. let is = c.in_ok-is_same_event.ensures.1 same in let no = w.if-not-branch.true in cc) w.copied.ensures (search rules)
       | else-not-branch w ↦ rw w.found-is (one_same parts c.args.pairs.now c.loop-pair.found.items
           c.loop-pair.pair-index c.pair-item.result c.loop-pair-test.true c.pair-item.is c.loop-pair.invariant
-          (c.in_ok-is_same.ensures.0 w.if-not-branch.false))
+          (c.in_ok-is_same_event.ensures.0 w.if-not-branch.false))
     ]
 
 pub returns : goal.returns
