@@ -16,8 +16,10 @@ LONG = (b"\xa0\xb0\xff\xff" + bytes(65531)) * 300 + b"\x7f\xff\x04\x00"
 # The first limit on a run's memory, under which no program starts, and the step to the next.
 LEAST_MEMORY = 2 << 20
 MORE_MEMORY = 16 << 10
-# What Rust's library says, before `main`, if it has no memory for the stack that a handler of signals has.
-BEFORE_MAIN = b"failed to allocate an alternative stack"
+# What Rust's library says, before `main`, if it has no memory for the stack that a handler of signals has; and if it has
+# none for the beginning of this message either.
+NO_STACK = b"failed to allocate an alternative stack: "
+BEFORE_MAIN = NO_STACK, b"memory allocation of %d bytes failed" % len(NO_STACK)
 
 
 def repeated(one, two, count):
@@ -65,7 +67,7 @@ def ends_by_memory(program, words, failures):
     for limit in range(LEAST_MEMORY, BIG, MORE_MEMORY):
         end = end_of(program, words, **within(limit))
         # Under the least limits the loader can't load the C library, and ends with the status 127.
-        if not ends and end[0] == 127 or BEFORE_MAIN in end[2]:
+        if not ends and end[0] == 127 or any(it in end[2] for it in BEFORE_MAIN):
             continue
         ends.append(end)
         if end not in failures:
