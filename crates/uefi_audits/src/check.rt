@@ -8,7 +8,7 @@ ghost use Rattle.std.specs.List.{list_all};
 ghost use Rattle.uefi_tcg.specs.LogViews.{event_of};
 ghost use Rattle.pcr_replay.specs.Banks.{all_banks};
 ghost use Rattle.uefi_audits.specs.Check.{agrees, are_hashes, has_digests, IsChecked, IsFirstMatch, MatchesBy, MatchesNoneOf, MayMeasureOther};
-ghost use Rattle.uefi_audits.specs.declared.check.form.Form.TheVariants.{Command, Narrowed, VariableValue, WithoutNul};
+ghost use Rattle.uefi_audits.specs.declared.check.form.Form.TheVariants.{Narrowed, VariableValue};
 
 pub use self::counts::TypeCounts;
 use self::form::may_describe;
@@ -94,12 +94,19 @@ fn may_measure_other(event: &LogEvent<'_>) -> bool
 fn matches_by<A: Allocator>(alloc: A, event: &LogEvent<'_>, form: Form) -> Result<bool, AllocError>
     ensures { IfOk result (λ found. IsTrue found ↔ MatchesBy (event_of event.now) form) }
 {
+    let data = event.event_data();
     match form {
-        Form::Data => Ok(are_hashes(event, event.event_data(), &[])),
+        Form::Data => Ok(are_hashes(event, data, &[])),
         Form::VariableValue => Ok(matches_value(event)),
-        Form::WithoutNul => Ok(matches_without_nul(event)),
-        Form::WithNul => Ok(are_hashes(event, event.event_data(), &[0])),
-        Form::Command => Ok(matches_command(event)),
+        Form::WithoutNul => match without_nul(data) {
+            Some(text) => Ok(are_hashes(event, text, &[])),
+            None => Ok(false),
+        },
+        Form::WithNul => Ok(are_hashes(event, data, &[0])),
+        Form::Command => match command_in(data) {
+            Some(command) => Ok(are_hashes(event, command, &[])),
+            None => Ok(false),
+        },
         Form::Narrowed => matches_narrowed(alloc, event),
     }
 }
@@ -111,26 +118,6 @@ fn matches_value(event: &LogEvent<'_>) -> bool
     one_value();
     match VariableData::read(event.event_data()) {
         Some(variable) => are_hashes(event, variable.data, &[]),
-        None => false,
-    }
-}
-
-/// Returns whether an event matches by its data without their closing NUL.
-fn matches_without_nul(event: &LogEvent<'_>) -> bool
-    ensures { IsTrue result ↔ MatchesBy (event_of event.now) WithoutNul }
-{
-    match without_nul(event.event_data()) {
-        Some(text) => are_hashes(event, text, &[]),
-        None => false,
-    }
-}
-
-/// Returns whether an event matches by the command in its data.
-fn matches_command(event: &LogEvent<'_>) -> bool
-    ensures { IsTrue result ↔ MatchesBy (event_of event.now) Command }
-{
-    match command_in(event.event_data()) {
-        Some(command) => are_hashes(event, command, &[]),
         None => false,
     }
 }

@@ -19,9 +19,7 @@ pub(super) fn command_in(bytes: &[u8]) -> Option<&[u8]>
     ensures { MatchOption result ((command : List ℕ) → IsCommand bytes.now command → ⊥)
         (λ command. IsCommand bytes.now command.now) }
 {
-    let Some(text) = without_nul(bytes) else {
-        return None;
-    };
+    let text = without_nul(bytes)?;
     if let Some(command) = text.strip_prefix(b"grub_cmd: ") {
         return Some(command);
     }

@@ -1,19 +1,46 @@
 use Rattle.std.proofs.Common.{◌↔◌, IsTrue, subst, sym}
+use Rattle.std.specs.Prelude.{false}
 use Rattle.uefi_tcg.specs.LogViews.{event_of}
 use Rattle.uefi_audits.specs.Check.{MatchesBy}
 use Rattle.uefi_audits.specs.declared.check.form.Form.{Form}
-use Rattle.uefi_audits.proofs.Matching.{by_closed, by_data}
+use Rattle.uefi_audits.proofs.Matching.{by_closed, by_command, by_data, by_no_command, by_no_text, by_text}
 use Rattle.uefi_audits.proofs.check.matches_by.Goals as goal
 
 pub returns-in-Data : goal.returns-in-Data
 returns-in-Data g c =
     subst (λ (form : Form). IsTrue c.are_hashes.result ↔ MatchesBy (event_of c.args.event.now) form) (sym c.in-Data.is)
-    (by_data (event_of c.args.event.now) c.event_data.result.now c.are_hashes.result c.event_data.ensures c.are_hashes.ensures)
+    (by_data (event_of c.args.event.now) c.event_data-data.result.now c.are_hashes.result c.event_data-data.ensures c.are_hashes.ensures)
 
 pub returns-in-WithNul : goal.returns-in-WithNul
 returns-in-WithNul g c =
     let found = c.are_hashes-in-WithNul in
-    let whole = c.event_data-in-WithNul in
+    let whole = c.event_data-data in
     subst (λ (form : Form). IsTrue c.are_hashes-in-WithNul.result ↔ MatchesBy (event_of c.args.event.now) form)
     (sym c.in-WithNul.is)
     (by_closed (event_of c.args.event.now) whole.result.now found.result whole.ensures found.ensures)
+
+pub returns-in-Some : goal.returns-in-Some
+returns-in-Some g c =
+    subst (λ (form : Form). IsTrue c.are_hashes-in-Some.result ↔ MatchesBy (event_of c.args.event.now) form)
+    (sym c.in-WithoutNul.is)
+    (by_text (event_of c.args.event.now) c.event_data-data.result.now c.in-Some.text.now c.are_hashes-in-Some.result
+    c.event_data-data.ensures c.in-Some.ensures c.are_hashes-in-Some.ensures)
+
+pub returns-in-WithoutNul : goal.returns-in-WithoutNul
+returns-in-WithoutNul g c =
+    subst (λ (form : Form). IsTrue false ↔ MatchesBy (event_of c.args.event.now) form) (sym c.in-WithoutNul.is)
+    (by_no_text (event_of c.args.event.now) c.event_data-data.result.now c.event_data-data.ensures c.in-None.ensures)
+
+pub returns-in-Some-command_in : goal.returns-in-Some-command_in
+returns-in-Some-command_in g c =
+    subst (λ (form : Form). IsTrue c.are_hashes-in-Some-command_in.result ↔ MatchesBy (event_of c.args.event.now) form)
+    (sym c.in-Command.is)
+    (by_command (event_of c.args.event.now) c.event_data-data.result.now c.in-Some-command_in.command.now
+    c.are_hashes-in-Some-command_in.result c.event_data-data.ensures c.in-Some-command_in.ensures
+    c.are_hashes-in-Some-command_in.ensures)
+
+pub returns-in-Command : goal.returns-in-Command
+returns-in-Command g c =
+    subst (λ (form : Form). IsTrue false ↔ MatchesBy (event_of c.args.event.now) form) (sym c.in-Command.is)
+    (by_no_command (event_of c.args.event.now) c.event_data-data.result.now c.event_data-data.ensures
+    c.in-None-command_in.ensures)
