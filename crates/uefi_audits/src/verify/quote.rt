@@ -6,7 +6,7 @@ ghost use Rattle.pcr_replay.specs.Views.{value_of};
 ghost use Rattle.pcr_replay.specs.declared.start.Start.{Start};
 ghost use Rattle.tpm_quote.specs.Views.{quote_of};
 ghost use Rattle.uefi_tcg.specs.LogViews.{entry_of};
-ghost use Rattle.uefi_audits.specs.verify.Quote.{QuoteAgrees, agreeing, covers, has_its_nonce, is_digest, is_met, judged_at, judged_by, quote_judgement_of, quote_verdict, quoted_replays, received_of, tried};
+ghost use Rattle.uefi_audits.specs.verify.Quote.{QuoteAgrees, agreeing, covers, has_its_nonce, is_digest, is_met, judged_at, judged_by, quote_judgement_of, quote_verdict, quoted_replays, received_of};
 
 use crate::known_start::KnownStart;
 use crate::replay::{replay_banks, restart_banks};
@@ -84,7 +84,14 @@ impl<'a> QuoteVerdict<'a> {
             let replays = quoted_replays(alloc, entries, &received.quote, &start.start)?;
             return Ok(QuoteVerdict::of(received, replays.as_slice(), start));
         }
-        QuoteVerdict::at_assumed(alloc, entries, received)
+        let start = KnownStart::assumed(0);
+        let replays = quoted_replays(alloc, entries, &received.quote, &start.start)?;
+        let replays = replays.as_slice();
+        let at_0 = QuoteVerdict::of(received, replays, start);
+        let (at_3, at_4) = (KnownStart::assumed(3), KnownStart::assumed(4));
+        let at_3 = QuoteVerdict::restarted(alloc, entries, received, replays, at_3)?;
+        let at_4 = QuoteVerdict::restarted(alloc, entries, received, replays, at_4)?;
+        Ok(at_0.or(at_3).or(at_4))
     }
 
     /// Returns whether the digests agree, and the quote has the nonce that it was asked for with. Any
@@ -103,25 +110,6 @@ impl<'a> QuoteVerdict<'a> {
     {
         let quote = &self.received.quote;
         pcrs.iter().all(|pcr| is_covered(quote, bank, *pcr))
-    }
-
-    /// Returns the verdict in a TPM of which nobody states how it was started.
-    fn at_assumed<A: Allocator + Copy>(
-        alloc: A,
-        entries: &[LogEntry<'_>],
-        received: &ReceivedQuote<'a>,
-    ) -> Result<QuoteVerdict<'a>, AllocError>
-        ensures { IfOk result (λ verdict. quote_judgement_of verdict
-            ≡ tried (map entry_of entries.now) (received_of received.now)) }
-    {
-        let start = KnownStart::assumed(0);
-        let replays = quoted_replays(alloc, entries, &received.quote, &start.start)?;
-        let replays = replays.as_slice();
-        let at_0 = QuoteVerdict::of(received, replays, start);
-        let (at_3, at_4) = (KnownStart::assumed(3), KnownStart::assumed(4));
-        let at_3 = QuoteVerdict::restarted(alloc, entries, received, replays, at_3)?;
-        let at_4 = QuoteVerdict::restarted(alloc, entries, received, replays, at_4)?;
-        Ok(at_0.or(at_3).or(at_4))
     }
 
     /// Returns the verdict in a TPM that was started so, by what the banks hold in one that was started

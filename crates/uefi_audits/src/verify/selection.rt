@@ -99,9 +99,7 @@ fn selection_in(text: &[u8]) -> Option<PcrSelection>
     let Some((name, items)) = split_once(text, b':') else {
         return selected(None, text);
     };
-    let Some(bank) = bank_of_name(name) else {
-        return None;
-    };
+    let bank = bank_of_name(name)?;
     selected(Some(bank), items)
 }
 
@@ -153,15 +151,11 @@ fn selected(bank: Option<Bank>, items: &[u8]) -> Option<PcrSelection>
     let mut pcrs = [false; PCR_COUNT];
     let mut rest = items;
     while let Some((item, after)) = split_once(rest, b',') {
-        let Some(range) = range_in(item) else {
-            return None;
-        };
+        let range = range_in(item)?;
         select(&mut pcrs, &range);
         rest = after;
     }
-    let Some(range) = range_in(rest) else {
-        return None;
-    };
+    let range = range_in(rest)?;
     select(&mut pcrs, &range);
     Some(PcrSelection { bank, pcrs })
 }
@@ -183,20 +177,14 @@ fn range_in(item: &[u8]) -> Option<Range>
     ensures { MatchOption result ((range : Range) → IsItem item.now range → ⊥) (IsItem item.now) }
 {
     let Some((first, last)) = split_once(item, b'-') else {
-        let Some(pcr) = pcr_number(item) else {
-            return None;
-        };
+        let pcr = pcr_number(item)?;
         return Some(Range {
             first: pcr,
             last: pcr,
         });
     };
-    let Some(first) = pcr_number(first) else {
-        return None;
-    };
-    let Some(last) = pcr_number(last) else {
-        return None;
-    };
+    let first = pcr_number(first)?;
+    let last = pcr_number(last)?;
     if first > last {
         return None;
     }

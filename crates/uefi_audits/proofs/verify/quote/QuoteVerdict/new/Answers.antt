@@ -1,5 +1,4 @@
 use Rattle.std.proofs.Common.{map, rules}
-use Rattle.std.proofs.lemmas.Result.{IfOk-weaker}
 use Rattle.uefi_tcg.specs.LogViews.{entry_of}
 use Rattle.uefi_audits.specs.verify.Quote.{quote_judgement_of, received_of}
 use Rattle.uefi_audits.proofs.verify.QuoteVerdicts.{quote_agrees, stated_is, tried_is}
@@ -17,12 +16,10 @@ returns-then-start-clause-agreement g c =
 
 pub returns-clause-verdict : goal.returns-clause-verdict
 returns-clause-verdict g c =
-    IfOk-weaker c.at_assumed.result _ _
-    (λ verdict is. tried_is c.args.locality (map entry_of c.args.entries.now) (received_of c.args.received.now)
-    c.of-start.result (quote_judgement_of verdict) c.of-start.ensures c.if-start.false is) c.at_assumed.ensures
+    tried_is c.args.locality (map entry_of c.args.entries.now) (received_of c.args.received.now)
+    c.of-start.result (quote_judgement_of c.or-2.result) c.of-start.ensures c.if-start.false (search rules)
 
 pub returns-clause-agreement : goal.returns-clause-agreement
 returns-clause-agreement g c =
-    IfOk-weaker c.at_assumed.result _ _
-    (λ verdict is. quote_agrees c.args.locality (map entry_of c.args.entries.now) (received_of c.args.received.now)
-    (quote_judgement_of verdict) is) (returns-clause-verdict g c)
+    quote_agrees c.args.locality (map entry_of c.args.entries.now) (received_of c.args.received.now)
+    (quote_judgement_of c.or-2.result) (returns-clause-verdict g c)
