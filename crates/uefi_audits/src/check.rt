@@ -8,7 +8,7 @@ ghost use Rattle.std.specs.List.{list_all};
 ghost use Rattle.uefi_tcg.specs.LogViews.{event_of};
 ghost use Rattle.pcr_replay.specs.Banks.{all_banks};
 ghost use Rattle.uefi_audits.specs.Check.{agrees, are_hashes, has_digests, IsChecked, IsFirstMatch, MatchesBy, MatchesNoneOf, MayMeasureOther};
-ghost use Rattle.uefi_audits.specs.declared.check.form.Form.TheVariants.{Narrowed, VariableValue};
+ghost use Rattle.uefi_audits.specs.declared.check.form.Form.TheVariants.{Narrowed};
 
 pub use self::counts::TypeCounts;
 use self::form::may_describe;
@@ -74,8 +74,7 @@ fn first_match<A: Allocator + Copy>(
         (IsFirstMatch (event_of event.now) forms.now)) }
 {
     for form in forms {
-        let found = matches_by(alloc, event, *form)?;
-        if found {
+        if matches_by(alloc, event, *form)? {
             return Ok(Some(*form));
         }
     }
@@ -97,7 +96,13 @@ fn matches_by<A: Allocator>(alloc: A, event: &LogEvent<'_>, form: Form) -> Resul
     let data = event.event_data();
     match form {
         Form::Data => Ok(are_hashes(event, data, &[])),
-        Form::VariableValue => Ok(matches_value(event)),
+        Form::VariableValue => {
+            one_value();
+            match VariableData::read(data) {
+                Some(variable) => Ok(are_hashes(event, variable.data, &[])),
+                None => Ok(false),
+            }
+        }
         Form::WithoutNul => match without_nul(data) {
             Some(text) => Ok(are_hashes(event, text, &[])),
             None => Ok(false),
@@ -108,17 +113,6 @@ fn matches_by<A: Allocator>(alloc: A, event: &LogEvent<'_>, form: Form) -> Resul
             None => Ok(false),
         },
         Form::Narrowed => matches_narrowed(alloc, event),
-    }
-}
-
-/// Returns whether an event matches by the value of the variable that its data are.
-fn matches_value(event: &LogEvent<'_>) -> bool
-    ensures { IsTrue result ↔ MatchesBy (event_of event.now) VariableValue }
-{
-    one_value();
-    match VariableData::read(event.event_data()) {
-        Some(variable) => are_hashes(event, variable.data, &[]),
-        None => false,
     }
 }
 

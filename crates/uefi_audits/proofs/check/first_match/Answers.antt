@@ -5,15 +5,15 @@ use Rattle.uefi_tcg.specs.LogViews.{event_of}
 use Rattle.uefi_audits.proofs.Matching.{first_at, none_more, none_of_all}
 use Rattle.uefi_audits.proofs.check.first_match.Goals as goal
 
-pub returns-then-found : goal.returns-then-found
-returns-then-found g c =
+pub returns-then-branch : goal.returns-then-branch
+returns-then-branch g c =
     first_at (event_of c.args.event.now) c.args.forms.now c.loop-form.form-index _ _ (omega (arith, c.loop-form-test.true))
-    refl c.loop-form.invariant (c.in_ok-found.ensures.0 c.if-found.true)
+    refl c.loop-form.invariant (c.in_ok-matches_by.ensures.0 c.if-branch.true)
 
 pub loop-form-preserved : goal.loop-form-preserved
 loop-form-preserved g c =
     none_more (event_of c.args.event.now) c.args.forms.now c.loop-form.form-index _ (omega (arith, c.loop-form-test.true))
-    c.loop-form.invariant (λ matches. true≢false (sym (c.in_ok-found.ensures.1 matches) ∙ c.if-found.false))
+    c.loop-form.invariant (λ matches. true≢false (sym (c.in_ok-matches_by.ensures.1 matches) ∙ c.if-branch.false))
 
 pub returns : goal.returns
 returns g c =

@@ -1,9 +1,10 @@
 use Rattle.std.proofs.Common.{◌↔◌, IsTrue, subst, sym}
 use Rattle.std.specs.Prelude.{false}
+use Rattle.tcg_event.specs.Views.{variable_of}
 use Rattle.uefi_tcg.specs.LogViews.{event_of}
 use Rattle.uefi_audits.specs.Check.{MatchesBy}
 use Rattle.uefi_audits.specs.declared.check.form.Form.{Form}
-use Rattle.uefi_audits.proofs.Matching.{by_closed, by_command, by_data, by_no_command, by_no_text, by_text}
+use Rattle.uefi_audits.proofs.Matching.{by_closed, by_command, by_data, by_no_command, by_no_text, by_no_value, by_text, by_value}
 use Rattle.uefi_audits.proofs.check.matches_by.Goals as goal
 
 pub returns-in-Data : goal.returns-in-Data
@@ -22,14 +23,27 @@ returns-in-WithNul g c =
 pub returns-in-Some : goal.returns-in-Some
 returns-in-Some g c =
     subst (λ (form : Form). IsTrue c.are_hashes-in-Some.result ↔ MatchesBy (event_of c.args.event.now) form)
+    (sym c.in-VariableValue.is)
+    (by_value (event_of c.args.event.now) c.event_data-data.result.now (variable_of c.in-Some.variable)
+    c.are_hashes-in-Some.result c.one_value.ensures.variable c.event_data-data.ensures c.in-Some.ensures
+    c.are_hashes-in-Some.ensures)
+
+pub returns-in-VariableValue : goal.returns-in-VariableValue
+returns-in-VariableValue g c =
+    subst (λ (form : Form). IsTrue false ↔ MatchesBy (event_of c.args.event.now) form) (sym c.in-VariableValue.is)
+    (by_no_value (event_of c.args.event.now) c.event_data-data.result.now c.event_data-data.ensures c.in-None.ensures)
+
+pub returns-in-Some-without_nul : goal.returns-in-Some-without_nul
+returns-in-Some-without_nul g c =
+    subst (λ (form : Form). IsTrue c.are_hashes-in-Some-without_nul.result ↔ MatchesBy (event_of c.args.event.now) form)
     (sym c.in-WithoutNul.is)
-    (by_text (event_of c.args.event.now) c.event_data-data.result.now c.in-Some.text.now c.are_hashes-in-Some.result
-    c.event_data-data.ensures c.in-Some.ensures c.are_hashes-in-Some.ensures)
+    (by_text (event_of c.args.event.now) c.event_data-data.result.now c.in-Some-without_nul.text.now c.are_hashes-in-Some-without_nul.result
+    c.event_data-data.ensures c.in-Some-without_nul.ensures c.are_hashes-in-Some-without_nul.ensures)
 
 pub returns-in-WithoutNul : goal.returns-in-WithoutNul
 returns-in-WithoutNul g c =
     subst (λ (form : Form). IsTrue false ↔ MatchesBy (event_of c.args.event.now) form) (sym c.in-WithoutNul.is)
-    (by_no_text (event_of c.args.event.now) c.event_data-data.result.now c.event_data-data.ensures c.in-None.ensures)
+    (by_no_text (event_of c.args.event.now) c.event_data-data.result.now c.event_data-data.ensures c.in-None-without_nul.ensures)
 
 pub returns-in-Some-command_in : goal.returns-in-Some-command_in
 returns-in-Some-command_in g c =
