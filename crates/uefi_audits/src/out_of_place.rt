@@ -8,7 +8,7 @@ ghost use Rattle.std.specs.Prelude.{◌≡◌, ◌++◌, ◌||◌, codes, map, l
 ghost use Rattle.std.specs.List.{filter, flat_map, list_any, range_with_len};
 ghost use Rattle.uefi_tcg.specs.LogViews.{entry_of, event_of};
 ghost use Rattle.pcr_replay.specs.Measured.{is_hash_of};
-ghost use Rattle.uefi_audits.specs.OutOfPlace.{are_faults, exit_text, has_exit, if_broken, is_above_registers, is_exit, is_of_bios, misplaced, misplaced_in, misplaced_of, remarks_in, remarks_of, separates, without_separator};
+ghost use Rattle.uefi_audits.specs.OutOfPlace.{are_faults, exit_text, has_exit, if_broken, is_above_registers, is_exit, misplaced, misplaced_in, misplaced_of, remarks_in, remarks_of, separates, without_separator};
 ghost use Rattle.uefi_audits.specs.private.Counting.{finding_of};
 
 pub use self::rule::Rule;
@@ -115,13 +115,6 @@ fn is_exit_in(bank: Bank, event: &LogEvent<'_>) -> bool
     is_hash_of(bank, event, b"Exit Boot Services Invocation", &[])
 }
 
-/// Returns whether a log is that of a BIOS: it has no event of UEFI.
-fn is_of_bios(all: &[CheckedEntry<'_>]) -> bool
-    ensures { result ≡ is_of_bios (map finding_of all.now) }
-{
-    !all.iter().any(|it| it.entry.event.event_type().0 >= EventType::EFI_EVENT_BASE.0)
-}
-
 /// Returns the PCRs of firmware without a separator.
 fn without_separator<A: Allocator>(
     alloc: A,
@@ -148,7 +141,8 @@ fn separates(pcr: u32, it: &CheckedEntry<'_>) -> bool
     it.pcr() == pcr && it.has_type(EventType::SEPARATOR)
 }
 
-/// Returns the events of PCR 0 to 8 that are out of place.
+/// Returns the events of PCR 0 to 8 that are out of place. A log without an event of UEFI is that of a
+/// BIOS.
 fn misplaced<'a, A: Allocator>(
     alloc: A,
     all: &[CheckedEntry<'a>],
@@ -156,7 +150,10 @@ fn misplaced<'a, A: Allocator>(
     ensures { IfOk result (λ found.
         map misplaced_of found.items ≡ misplaced (map finding_of all.now)) }
 {
-    let is_of_bios = is_of_bios(all);
+    let first_of_uefi = EventType::EFI_EVENT_BASE.0;
+    let is_of_bios = !all
+        .iter()
+        .any(|it| it.entry.event.event_type().0 >= first_of_uefi);
     let mut found = Vec::new(alloc);
     for pcr in 0..JUDGED_PCRS {
         push_misplaced(&mut found, all, is_of_bios, pcr)?;
