@@ -8,7 +8,6 @@ ghost use Rattle.std.specs.List.{list_all};
 ghost use Rattle.uefi_tcg.specs.LogViews.{event_of};
 ghost use Rattle.pcr_replay.specs.Banks.{all_banks};
 ghost use Rattle.uefi_audits.specs.Check.{agrees, are_hashes, has_digests, IsChecked, IsFirstMatch, MatchesBy, MatchesNoneOf, MayMeasureOther};
-ghost use Rattle.uefi_audits.specs.declared.check.form.Form.TheVariants.{Narrowed};
 
 pub use self::counts::TypeCounts;
 use self::form::may_describe;
@@ -112,17 +111,10 @@ fn matches_by<A: Allocator>(alloc: A, event: &LogEvent<'_>, form: Form) -> Resul
             Some(command) => Ok(are_hashes(event, command, &[])),
             None => Ok(false),
         },
-        Form::Narrowed => matches_narrowed(alloc, event),
-    }
-}
-
-/// Returns whether an event matches by the bytes whose units, of UTF-16, its data are.
-fn matches_narrowed<A: Allocator>(alloc: A, event: &LogEvent<'_>) -> Result<bool, AllocError>
-    ensures { IfOk result (λ found. IsTrue found ↔ MatchesBy (event_of event.now) Narrowed) }
-{
-    match narrowed(alloc, event.event_data())? {
-        Some(bytes) => Ok(are_hashes(event, bytes.as_slice(), &[])),
-        None => Ok(false),
+        Form::Narrowed => match narrowed(alloc, data)? {
+            Some(bytes) => Ok(are_hashes(event, bytes.as_slice(), &[])),
+            None => Ok(false),
+        },
     }
 }
 

@@ -1,10 +1,10 @@
-use Rattle.std.proofs.Common.{◌↔◌, IsTrue, subst, sym}
+use Rattle.std.proofs.Common.{◌≡◌, ◌∙◌, ◌↔◌, IsTrue, ap, subst, sym}
 use Rattle.std.specs.Prelude.{false}
 use Rattle.tcg_event.specs.Views.{variable_of}
 use Rattle.uefi_tcg.specs.LogViews.{event_of}
-use Rattle.uefi_audits.specs.Check.{MatchesBy}
+use Rattle.uefi_audits.specs.Check.{MatchesBy, widened}
 use Rattle.uefi_audits.specs.declared.check.form.Form.{Form}
-use Rattle.uefi_audits.proofs.Matching.{by_closed, by_command, by_data, by_no_command, by_no_text, by_no_value, by_text, by_value}
+use Rattle.uefi_audits.proofs.Matching.{by_closed, by_command, by_data, by_narrowed, by_no_command, by_no_text, by_no_value, by_not_narrowed, by_text, by_value}
 use Rattle.uefi_audits.proofs.check.matches_by.Goals as goal
 
 pub returns-in-Data : goal.returns-in-Data
@@ -58,3 +58,19 @@ returns-in-Command g c =
     subst (λ (form : Form). IsTrue false ↔ MatchesBy (event_of c.args.event.now) form) (sym c.in-Command.is)
     (by_no_command (event_of c.args.event.now) c.event_data-data.result.now c.event_data-data.ensures
     c.in-None-command_in.ensures)
+
+pub returns-in-Some-2 : goal.returns-in-Some-2
+returns-in-Some-2 g c =
+    let wide : c.event_data-data.result.now ≡ widened c.in-Some-2.bytes.items =
+    rw c.in-Some-2.is at c.in_ok-bytes-in-Narrowed.ensures in
+    subst (λ (form : Form). IsTrue c.are_hashes-in-Some-2.result ↔ MatchesBy (event_of c.args.event.now) form)
+    (sym c.in-Narrowed.is)
+    (by_narrowed (event_of c.args.event.now) c.event_data-data.result.now c.as_slice.result.now
+    c.are_hashes-in-Some-2.result c.event_data-data.ensures (wide ∙ ap widened (sym c.as_slice.ensures.value))
+    c.are_hashes-in-Some-2.ensures)
+
+pub returns : goal.returns
+returns g c =
+    subst (λ (form : Form). IsTrue false ↔ MatchesBy (event_of c.args.event.now) form) (sym c.in-Narrowed.is)
+    (by_not_narrowed (event_of c.args.event.now) c.event_data-data.result.now c.event_data-data.ensures
+    (rw c.in-None-2.is at c.in_ok-bytes-in-Narrowed.ensures))
