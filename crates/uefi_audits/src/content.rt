@@ -9,7 +9,7 @@ ghost use Rattle.pcr_replay.specs.Start.{locality_in};
 ghost use Rattle.uefi_tcg.specs.LogViews.{event_of};
 ghost use Rattle.uefi_tcg.specs.declared.uintn_size.UintnSize.{UintnSize};
 ghost use Rattle.uefi_tcg.specs.v2.Views.{header_of};
-ghost use Rattle.uefi_audits.specs.content.Content.{BlobContent, ImageContent, NoActionContent, PostCodeContent, Says, are_printed, is_printed, text_content};
+ghost use Rattle.uefi_audits.specs.content.Content.{BlobContent, NoActionContent, Says, are_printed, is_printed, text_content};
 ghost use Rattle.uefi_audits.specs.content.Form.{OfDescribedBlob, OfGpt, OfImage, form};
 ghost use Rattle.uefi_audits.specs.content.Header.{ReadsHeader};
 ghost use Rattle.uefi_audits.specs.content.Views.{content_of};
@@ -80,7 +80,8 @@ pub fn read_content<'a>(event: &LogEvent<'a>, uintn_size: UintnSize) -> EventCon
 {
     let bytes = event.event_data();
     match event.event_type() {
-        EventType::POST_CODE => post_code_content(bytes),
+        EventType::POST_CODE if are_printed(bytes) => text_content(bytes),
+        EventType::POST_CODE => blob_content(bytes),
         EventType::NO_ACTION => no_action_content(bytes),
         EventType::SEPARATOR if bytes.len() == 4 => EventContent::Separator(u32_at(bytes, 0)),
         EventType::SEPARATOR => EventContent::Unread,
@@ -145,17 +146,6 @@ fn text_content(bytes: &[u8]) -> EventContent<'_>
     } else {
         EventContent::Unread
     }
-}
-
-/// Returns the text that data are, or the blob.
-#[tactic(auto, unfolding(crate::specs::content::Content::PostCodeContent))]
-fn post_code_content(bytes: &[u8]) -> EventContent<'_>
-    ensures { PostCodeContent (are_printed bytes.now) bytes.now (content_of result) }
-{
-    if are_printed(bytes) {
-        return text_content(bytes);
-    }
-    blob_content(bytes)
 }
 
 /// Returns whether each byte is a character of ASCII that prints, or a space.

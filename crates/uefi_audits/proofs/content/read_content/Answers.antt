@@ -1,7 +1,15 @@
 use Rattle.std.proofs.Common.{rules}
-use Rattle.uefi_audits.specs.content.Content.{Says}
+use Rattle.uefi_audits.specs.content.Content.{PostCodeContent, Says}
 use Rattle.uefi_audits.specs.content.Form.{form}
 use Rattle.uefi_audits.proofs.content.read_content.Goals as goal
+
+pub returns-in-POST_CODE : goal.returns-in-POST_CODE
+unfolding Says form PostCodeContent
+returns-in-POST_CODE c = search rules
+
+pub returns-in-POST_CODE-2 : goal.returns-in-POST_CODE-2
+unfolding Says form PostCodeContent
+returns-in-POST_CODE-2 c = search rules
 
 pub returns-in-POST_CODE2 : goal.returns-in-POST_CODE2
 unfolding Says form
