@@ -36,7 +36,11 @@ part_of = fold-Part parts.Value parts.Part value_step part_step
 abbrev pub AreParts : Result (Vec Part Global) AllocError → List parts.Part → Type 0
 AreParts result them = IfOk result (λ it. map part_of it.items ≡ them)
 
--- All values but `guid`, for a proof that unfolds them.
+-- All values but `guid`, and all, for proofs that unfold them.
 unfoldable pub most_values : ⊤
 unfolding parts.empty parts.decimal parts.hexadecimal parts.boot_number parts.plain parts.text parts.bytes parts.object parts.list
 most_values = tt
+
+unfoldable pub values : ⊤
+unfolding most_values parts.guid
+values = tt

@@ -6,7 +6,7 @@ use Rattle.shown.specs.Name.{shown_name}
 use Rattle.audit_text.specs.words.Types.{name_or_number}
 
 -- The name of an algorithm, or its number in hex.
-unfoldable pub algorithm_text : ℕ → List ℕ
+abbrev pub algorithm_text : ℕ → List ℕ
 algorithm_text algorithm = name_or_number (algorithm_name algorithm) algorithm
 
 -- Bytes in hex: a line; so many lines of 32 bytes, and the line of the bytes after them; and 32 a line.

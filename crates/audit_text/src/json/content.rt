@@ -3,7 +3,7 @@ ghost use Rattle.serde_json.specs.Data.{no_members};
 ghost use Rattle.serde_json.specs.View.{members_view};
 ghost use Rattle.audit_text.specs.json.Content.{content_json};
 ghost use Rattle.audit_text.specs.json.Json.{with_members};
-ghost use Rattle.audit_text.specs.private.JsonValues.{AreValuesOf, IsValueOf};
+ghost use Rattle.audit_text.specs.private.JsonValues.{IsValueOf};
 ghost use Rattle.audit_text.specs.parts.Part.{members_of};
 ghost use Rattle.audit_text.specs.private.PartViews.{part_of, value_of};
 ghost use Rattle.uefi_audits.specs.content.Views.{content_of};
@@ -42,7 +42,7 @@ fn members(alloc: Global, parts: &Vec<Part<'_>>) -> Result<Map<String, Value>, A
 
 /// Returns a value as JSON.
 #[cycle(json)]
-#[tactic(auto, unfolding(crate::specs::private::PartViews::most_values, crate::specs::parts::Part::guid))]
+#[tactic(auto, unfolding(crate::specs::private::PartViews::values))]
 fn value_json(alloc: Global, value: &PartValue<'_>) -> Result<Value, AllocError>
     ensures { IfOk result (IsValueOf (value_of value.now).json) }
 {
@@ -54,19 +54,12 @@ fn value_json(alloc: Global, value: &PartValue<'_>) -> Result<Value, AllocError>
         PartValue::Text(text) | PartValue::Plain(text) => Value::try_from_str(alloc, text.as_str()),
         PartValue::Bytes(bytes) => Ok(Value::String(hex::encode(alloc, bytes)?)),
         PartValue::Object(parts) => Ok(Value::Object(members(alloc, parts)?)),
-        PartValue::List(values) => Ok(Value::Array(items(alloc, values)?)),
+        PartValue::List(values) => {
+            let mut items = Vec::new(alloc);
+            for value in values {
+                items.push(value_json(alloc, value)?)?;
+            }
+            Ok(Value::Array(items))
+        }
     }
-}
-
-/// Returns the values of a list.
-#[cycle(json)]
-fn items(alloc: Global, values: &Vec<PartValue<'_>>) -> Result<Vec<Value>, AllocError>
-    ensures { IfOk result
-        (AreValuesOf (map (λ value. value.json) (map value_of values.now.items))) }
-{
-    let mut items = Vec::new(alloc);
-    for value in values {
-        items.push(value_json(alloc, value)?)?;
-    }
-    Ok(items)
 }

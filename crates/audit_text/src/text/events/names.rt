@@ -7,7 +7,7 @@ use std::alloc::AllocError;
 use uefi_tcg::AlgorithmId;
 
 /// Appends the name of an algorithm, or its number.
-#[tactic(auto, unfolding(crate::specs::text::EventParts::algorithm_text, crate::specs::words::Types::name_or_number))]
+#[tactic(auto, unfolding(crate::specs::words::Types::name_or_number))]
 pub(crate) fn push_algorithm(text: &mut String, algorithm: AlgorithmId) -> Result<(), AllocError>
     ensures { OnOk result (AppendsText text.old text.new (algorithm_text algorithm.0)) }
 {

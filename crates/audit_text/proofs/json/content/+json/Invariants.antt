@@ -8,8 +8,8 @@ use Rattle.audit_text.specs.private.PartViews.{part_of, value_of}
 use Rattle.audit_text.proofs.json.content.+json.Given as goal
 
 -- The values are those so far.
-abbrev pub invariant-items-loop-value : goal.invariant-items-loop-value
-invariant-items-loop-value l = AreValuesOf (map (λ value. value.json) (map value_of (take l.value-index l.value-items))) l.items
+abbrev pub invariant-value_json-loop-value : goal.invariant-value_json-loop-value
+invariant-value_json-loop-value l = AreValuesOf (map (λ value. value.json) (map value_of (take l.value-index l.value-items))) l.items
 
 -- The members, with those of the parts to come, are those of all.
 abbrev pub invariant-members-loop-part : goal.invariant-members-loop-part
