@@ -1,5 +1,5 @@
 -- Of which PCRs a verdict speaks, as JSON.
-use Rattle.std.specs.Prelude.{ℕ, ◌==◌, Bool, true, false, List, [], ◌∷◌, ◌++◌, codes, filter, flat_map, length, map, if◌then◌else◌}
+use Rattle.std.specs.Prelude.{ℕ, ◌==◌, Bool, List, [], ◌∷◌, ◌++◌, codes, filter, flat_map, length, map, if◌then◌else◌}
 use Rattle.audit_text.specs.json.Json.{Json, null, number, string, array, object}
 use Rattle.pcr_replay.specs.Banks.{all_banks}
 use Rattle.pcr_replay.specs.declared.bank.Bank.{Bank}

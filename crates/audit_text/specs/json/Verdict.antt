@@ -22,7 +22,7 @@ led_json (Some (Ok value)) = string (encode_lower value)
 led_json (Some (Err at)) = null
 
 -- The event by which a PCR is undetermined.
-unfoldable pub event_json : Undetermined → Json
+abbrev pub event_json : Undetermined → Json
 event_json at =
     object (
     (codes "index", number at.index)

@@ -17,22 +17,14 @@ pub(crate) fn banks_json(alloc: Global, banks: Option<&[BankPcrs]>) -> Result<Va
     ensures { IfOk result
         (IsValueOf (banks_json (option_map (λ them. map bank_outcomes_of them.now) banks.entry))) }
 {
-    match banks {
-        Some(banks) => Ok(Value::Array(each_bank(alloc, banks)?)),
-        None => Ok(Value::Null),
-    }
-}
-
-/// Returns each bank.
-fn each_bank(alloc: Global, banks: &[BankPcrs]) -> Result<Vec<Value>, AllocError>
-    ensures { IfOk result (AreValuesOf (map bank_json (map bank_outcomes_of banks.now))) }
-{
+    let Some(banks) = banks else {
+        return Ok(Value::Null);
+    };
     let mut values = Vec::new(alloc);
     for bank in banks {
-        let value = bank_json(alloc, bank)?;
-        values.push(value)?;
+        values.push(bank_json(alloc, bank)?)?;
     }
-    Ok(values)
+    Ok(Value::Array(values))
 }
 
 /// Returns a bank: its name, its PCRs, and the events by which some are undetermined.
@@ -41,21 +33,13 @@ fn bank_json(alloc: Global, bank: &BankPcrs) -> Result<Value, AllocError>
     ensures { IfOk result (IsValueOf (bank_json (bank_outcomes_of bank.now))) }
 {
     let name = bank_name(bank.bank);
-    let outcomes = Value::Array(outcomes_json(alloc, &bank.pcrs)?);
-    let undetermined = Value::Array(all_undetermined(alloc, &bank.pcrs)?);
-    json!(in alloc; {"algorithm": name, "pcrs": outcomes, "undetermined": undetermined})
-}
-
-/// Returns what each PCR holds.
-fn outcomes_json(alloc: Global, pcrs: &Pcrs) -> Result<Vec<Value>, AllocError>
-    ensures { IfOk result (AreValuesOf (map outcome_json (outcomes_of pcrs.now))) }
-{
-    let mut values = Vec::new(alloc);
-    for outcome in pcrs.outcomes() {
-        let value = outcome_json(alloc, outcome)?;
-        values.push(value)?;
+    let mut pcrs = Vec::new(alloc);
+    for outcome in bank.pcrs.outcomes() {
+        pcrs.push(outcome_json(alloc, outcome)?)?;
     }
-    Ok(values)
+    let pcrs = Value::Array(pcrs);
+    let undetermined = Value::Array(all_undetermined(alloc, &bank.pcrs)?);
+    json!(in alloc; {"algorithm": name, "pcrs": pcrs, "undetermined": undetermined})
 }
 
 /// Returns a PCR's value in hex; `null` if it is undetermined.

@@ -6,7 +6,7 @@ ghost use Rattle.uefi_audits.specs.CheckResult.{all_forms, mismatch_of};
 ghost use Rattle.uefi_audits.specs.OutOfPlace.{remarks_of};
 ghost use Rattle.audit_text.specs.json.Check.{check_lines, counts_json, form_member, form_members, mismatch_json, mismatch_line, types_json, types_line};
 ghost use Rattle.audit_text.specs.json.Json.{object};
-ghost use Rattle.audit_text.specs.private.JsonValues.{AreValuesOf, IsValueOf, PutsMembers};
+ghost use Rattle.audit_text.specs.private.JsonValues.{IsValueOf, PutsMembers};
 
 use super::out_of_place::push_remarks;
 use crate::json::{push_line, type_json};
@@ -75,23 +75,10 @@ fn push_mismatches(
         (flat_map (mismatch_line log.now) (map mismatch_of mismatches.now))) }
 {
     for mismatch in mismatches {
-        push_mismatch(text, alloc, log, mismatch)?;
+        let value = mismatch_json(alloc, log, mismatch)?;
+        push_line(text, alloc, &value)?;
     }
     Ok(())
-}
-
-/// Appends the line of an event that matches in none of its type's forms.
-fn push_mismatch(
-    text: &mut String,
-    alloc: Global,
-    log: &str,
-    mismatch: &Mismatch<'_>,
-) -> Result<(), AllocError>
-    ensures { OnOk result
-        (AppendsText text.old text.new (mismatch_line log.now (mismatch_of mismatch.now))) }
-{
-    let value = mismatch_json(alloc, log, mismatch)?;
-    push_line(text, alloc, &value)
 }
 
 /// Returns an event that matches in none of its type's forms.
@@ -131,20 +118,11 @@ fn push_types(
 fn types_json(alloc: Global, log: &str, types: &[TypeCounts]) -> Result<Value, AllocError>
     ensures { IfOk result (IsValueOf (types_json log.now types.now)) }
 {
-    let checked = Value::Array(each_type(alloc, types)?);
-    json!(in alloc; {"checked": checked, "log": log})
-}
-
-/// Returns the counts of each type.
-fn each_type(alloc: Global, types: &[TypeCounts]) -> Result<Vec<Value>, AllocError>
-    ensures { IfOk result (AreValuesOf (map counts_json types.now)) }
-{
-    let mut values = Vec::new(alloc);
+    let mut checked = Vec::new(alloc);
     for counts in types {
-        let value = counts_json(alloc, counts)?;
-        values.push(value)?;
+        checked.push(counts_json(alloc, counts)?)?;
     }
-    Ok(values)
+    json!(in alloc; {"checked": Value::Array(checked), "log": log})
 }
 
 /// Returns the counts of a type.

@@ -122,8 +122,7 @@ pub(crate) fn event_json(
 pub(crate) fn hex_json(alloc: Global, bytes: &[u8]) -> Result<Value, AllocError>
     ensures { IfOk result (IsValueOf (string (encode_lower bytes.now))) }
 {
-    let digits = hex::encode(alloc, bytes)?;
-    Ok(Value::String(digits))
+    Ok(Value::String(hex::encode(alloc, bytes)?))
 }
 
 /// Returns a type: its name, if it has one, and its number.

@@ -2,7 +2,7 @@ ghost use Rattle.std.specs.Prelude.{◌≡◌, ◌==◌, not, map, IfOk};
 ghost use Rattle.std.specs.List.{filter, list_any};
 ghost use Rattle.pcr_replay.specs.Banks.{algorithm_of};
 ghost use Rattle.pcr_replay.specs.BankReplays.{bank_outcomes_of};
-ghost use Rattle.audit_text.specs.private.JsonValues.{AreValuesOf, IsValueOf};
+ghost use Rattle.audit_text.specs.private.JsonValues.{IsValueOf};
 ghost use Rattle.audit_text.specs.json.Replay.{algorithm_json, not_replayed_json};
 
 use crate::words::push_number;
@@ -23,7 +23,11 @@ pub(crate) fn not_replayed_json(
         (IsValueOf (not_replayed_json algorithms.now (map bank_outcomes_of banks.now))) }
 {
     let others = algorithms_without(alloc, algorithms, banks)?;
-    Ok(Value::Array(each_algorithm(alloc, others.as_slice())?))
+    let mut values = Vec::new(alloc);
+    for algorithm in &others {
+        values.push(algorithm_json(alloc, *algorithm)?)?;
+    }
+    Ok(Value::Array(values))
 }
 
 /// Returns those of these algorithms whose banks aren't among these.
@@ -49,18 +53,6 @@ fn is_replayed(banks: &[BankPcrs], algorithm: u16) -> bool
     banks
         .iter()
         .any(|found| found.bank.algorithm().0 == algorithm)
-}
-
-/// Returns each algorithm.
-fn each_algorithm(alloc: Global, algorithms: &[u16]) -> Result<Vec<Value>, AllocError>
-    ensures { IfOk result (AreValuesOf (map algorithm_json algorithms.now)) }
-{
-    let mut values = Vec::new(alloc);
-    for algorithm in algorithms {
-        let value = algorithm_json(alloc, *algorithm)?;
-        values.push(value)?;
-    }
-    Ok(values)
 }
 
 /// Returns an algorithm: the name of its bank, or its number in hex if that bank can't be replayed.

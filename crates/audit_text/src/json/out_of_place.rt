@@ -1,10 +1,10 @@
 //! The remarks on the places of a log's events, as JSON.
 
-ghost use Rattle.std.specs.Prelude.{flat_map, map, IfOk, OnOk};
+ghost use Rattle.std.specs.Prelude.{flat_map, IfOk, OnOk};
 ghost use Rattle.uefi_base.specs.Appending.{AppendsText};
 ghost use Rattle.uefi_audits.specs.OutOfPlace.{misplaced_of, remarks_of};
 ghost use Rattle.audit_text.specs.private.JsonValues.{IsValueOf};
-ghost use Rattle.audit_text.specs.json.OutOfPlace.{misplaced_json, misplaced_line, remark_lines, unseparated_json, unseparated_line};
+ghost use Rattle.audit_text.specs.json.OutOfPlace.{misplaced_json, remark_lines, unseparated_json, unseparated_line};
 
 use crate::json::{push_line, type_json};
 use crate::words::rule_name;
@@ -24,38 +24,11 @@ pub(super) fn push_remarks(
     ensures { OnOk result (AppendsText text.old text.new
         (remark_lines log.now (remarks_of remarks.now))) }
 {
-    push_events(text, alloc, log, remarks.events.as_slice())?;
-    push_unseparated(text, alloc, log, remarks.unseparated.as_slice())
-}
-
-/// Appends a line for each event that is out of place.
-fn push_events(
-    text: &mut String,
-    alloc: Global,
-    log: &str,
-    events: &[OutOfPlace<'_>],
-) -> Result<(), AllocError>
-    ensures { OnOk result (AppendsText text.old text.new
-        (flat_map (misplaced_line log.now) (map misplaced_of events.now))) }
-{
-    for event in events {
-        push_event(text, alloc, log, event)?;
+    for event in &remarks.events {
+        let value = misplaced_json(alloc, log, event)?;
+        push_line(text, alloc, &value)?;
     }
-    Ok(())
-}
-
-/// Appends the line of an event that is out of place.
-fn push_event(
-    text: &mut String,
-    alloc: Global,
-    log: &str,
-    found: &OutOfPlace<'_>,
-) -> Result<(), AllocError>
-    ensures { OnOk result
-        (AppendsText text.old text.new (misplaced_line log.now (misplaced_of found.now))) }
-{
-    let value = misplaced_json(alloc, log, found)?;
-    push_line(text, alloc, &value)
+    push_unseparated(text, alloc, log, remarks.unseparated.as_slice())
 }
 
 /// Returns an event that is out of place.
@@ -89,17 +62,10 @@ fn push_unseparated(
         (AppendsText text.old text.new (flat_map (unseparated_line log.now) pcrs.now)) }
 {
     for pcr in pcrs {
-        push_pcr(text, alloc, log, *pcr)?;
+        let value = unseparated_json(alloc, log, *pcr)?;
+        push_line(text, alloc, &value)?;
     }
     Ok(())
-}
-
-/// Appends the line of a PCR without a separator.
-fn push_pcr(text: &mut String, alloc: Global, log: &str, pcr: u32) -> Result<(), AllocError>
-    ensures { OnOk result (AppendsText text.old text.new (unseparated_line log.now pcr)) }
-{
-    let value = unseparated_json(alloc, log, pcr)?;
-    push_line(text, alloc, &value)
 }
 
 /// Returns a PCR without a separator.

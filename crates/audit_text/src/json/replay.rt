@@ -1,8 +1,8 @@
-ghost use Rattle.std.specs.Prelude.{◌≡◌, map, option_map, IfOk, OnOk};
+ghost use Rattle.std.specs.Prelude.{map, option_map, IfOk, OnOk};
 ghost use Rattle.uefi_base.specs.Appending.{AppendsText};
 ghost use Rattle.pcr_replay.specs.BankReplays.{bank_outcomes_of};
 ghost use Rattle.audit_text.specs.private.JsonValues.{IsValueOf};
-ghost use Rattle.audit_text.specs.json.Replay.{locality_json, part_json, replay_json, replay_line, shown_banks};
+ghost use Rattle.audit_text.specs.json.Replay.{locality_json, part_json, replay_json, replay_line};
 
 use crate::json::bank::banks_json;
 use crate::json::line::push_line;
@@ -71,7 +71,7 @@ fn replay_json(
     put(&mut members, alloc, "locality", locality)?;
     let log = Value::try_from_str(alloc, name)?;
     put(&mut members, alloc, "log", log)?;
-    let not_replayed = not_replayed_json(alloc, algorithms, shown_banks(banks))?;
+    let not_replayed = not_replayed_json(alloc, algorithms, banks.unwrap_or(&[]))?;
     put(&mut members, alloc, "not_replayed", not_replayed)?;
     let padding = part_json(alloc, offset, facts.trailing.padding)?;
     put(&mut members, alloc, "padding", padding)?;
@@ -96,12 +96,4 @@ fn locality_json(alloc: Global, known: &KnownStart) -> Result<Value, AllocError>
 {
     let (number, stated) = (known.start.locality, known.is_stated);
     json!(in alloc; {"number": number, "stated": stated})
-}
-
-/// Returns the banks that the object of a log has: none if the log is refused.
-fn shown_banks(banks: Option<&[BankPcrs]>) -> &[BankPcrs]
-    ensures { map bank_outcomes_of result.now
-        ≡ shown_banks (option_map (λ them. map bank_outcomes_of them.now) banks.entry) }
-{
-    banks.unwrap_or(&[])
 }

@@ -4,7 +4,7 @@ ghost use Rattle.uefi_base.specs.Appending.{AppendsText};
 ghost use Rattle.pcr_replay.specs.Views.{outcome_of};
 ghost use Rattle.pcr_replay.specs.BankReplays.{bank_outcomes_of};
 ghost use Rattle.audit_text.specs.private.JsonValues.{AppendsValues, AreValuesOf, IsValueOf};
-ghost use Rattle.audit_text.specs.json.Verdict.{event_json, failed_json, if_disagreeing, led_json, pcr_json, undetermined_by, verdict_json, verdict_line};
+ghost use Rattle.audit_text.specs.json.Verdict.{failed_json, if_disagreeing, led_json, pcr_json, undetermined_by, verdict_json, verdict_line};
 ghost use Rattle.uefi_audits.specs.verify.Compared.{judged_pcrs_of};
 
 use crate::json::coverage::{covered_json, not_covered_json, push_unless};
@@ -144,17 +144,16 @@ fn pcr_json(
     ensures { IfOk result (IsValueOf
         (pcr_json held.now (option_map (λ outcome. outcome_of outcome.now) outcome.entry))) }
 {
-    let mut members = Map::new(alloc);
-    let bank = Value::try_from_str(alloc, bank_name(held.bank))?;
-    put(&mut members, alloc, "bank", bank)?;
     let held_value = hex_json(alloc, held.value.as_bytes())?;
-    put(&mut members, alloc, "held", held_value)?;
-    let led = led_json(alloc, outcome)?;
-    put(&mut members, alloc, "leads_to", led)?;
-    put(&mut members, alloc, "pcr", Value::from(held.pcr))?;
+    let leads_to = led_json(alloc, outcome)?;
     let undetermined = undetermined_by(alloc, outcome)?;
-    put(&mut members, alloc, "undetermined", undetermined)?;
-    Ok(Value::Object(members))
+    json!(in alloc; {
+        "bank": bank_name(held.bank),
+        "held": held_value,
+        "leads_to": leads_to,
+        "pcr": held.pcr,
+        "undetermined": undetermined
+    })
 }
 
 /// Returns what the log leads to in a PCR, in hex; `null` if it leads to no value.
@@ -182,17 +181,11 @@ fn undetermined_by(
         outcome.now) outcome.entry))) }
 {
     match outcome {
-        Some(Err(at)) => event_json(alloc, at),
+        Some(Err(at)) => {
+            let (index, offset) = (at.index, at.offset);
+            let reason = format!(in alloc; "{}", at.fault)?;
+            json!(in alloc; {"index": index, "offset": offset, "reason": reason})
+        }
         _ => Ok(Value::Null),
     }
-}
-
-/// Returns the event by which a PCR is undetermined: its index, its offset, and why.
-#[tactic(auto, unfolding(crate::specs::json::Verdict::event_json))]
-fn event_json(alloc: Global, at: &Undetermined) -> Result<Value, AllocError>
-    ensures { IfOk result (IsValueOf (event_json at.now)) }
-{
-    let (index, offset) = (at.index, at.offset);
-    let reason = format!(in alloc; "{}", at.fault)?;
-    json!(in alloc; {"index": index, "offset": offset, "reason": reason})
 }

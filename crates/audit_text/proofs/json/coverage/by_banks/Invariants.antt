@@ -1,4 +1,4 @@
-use Rattle.std.proofs.Common.{map, take}
+use Rattle.std.proofs.Common.{take}
 use Rattle.std.specs.Prelude.{flat_map}
 use Rattle.pcr_replay.specs.Banks.{all_banks}
 use Rattle.audit_text.specs.json.Coverage.{of_bank}

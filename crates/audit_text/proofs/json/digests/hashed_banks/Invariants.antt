@@ -1,4 +1,4 @@
-use Rattle.std.proofs.Common.{map, take}
+use Rattle.std.proofs.Common.{take}
 use Rattle.std.specs.List.{flat_map}
 use Rattle.uefi_tcg.specs.LogViews.{event_of}
 use Rattle.pcr_replay.specs.Banks.{all_banks}

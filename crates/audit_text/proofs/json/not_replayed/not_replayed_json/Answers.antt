@@ -1,3 +1,4 @@
+use Rattle.std.proofs.lemmas.List.{take_all}
 use Rattle.std.proofs.Common.{◌≡◌, ◌==◌, ◌∙◌, ap, map, not}
 use Rattle.std.specs.List.{filter, list_any}
 use Rattle.serde_json.specs.Data.{array}
@@ -18,6 +19,7 @@ returns c =
     let same : filter (λ n. not (list_any (λ found. algorithm_of found.bank == n) banks)) algorithms
     ≡ filter (λ n. not (is_replayed (map bank_outcomes_of banks) n)) algorithms =
     λ i. filter (λ n. not (any_view (λ (it : BankOutcomes). algorithm_of it.bank == n) bank_outcomes_of banks i)) algorithms in
-    view-Array c.in_ok-each_algorithm.field-0
-    ∙ ap (λ it. array (items_of it)) (c.in_ok-each_algorithm.ensures
-    ∙ ap (λ them. values_of (map algorithm_json them)) (c.as_slice.ensures.value ∙ c.in_ok-others.ensures ∙ same))
+    view-Array c.loop-algorithm.values
+    ∙ ap (λ it. array (items_of it)) (c.loop-algorithm.invariant
+    ∙ ap (λ them. values_of (map algorithm_json them))
+    (take_all c.loop-algorithm.algorithm-index _ c.loop-algorithm-test.false ∙ c.deref-algorithm-items.ensures.value ∙ c.in_ok-others.ensures ∙ same))
