@@ -20,3 +20,5 @@ rows_grown rows old new value row index within at is same pushed =
 
 pub is_there : (rows : List (ℕ × ℕ)) (index : ℕ) → index < length rows → None ≡ slice_get rows index → ⊥
 is_there rows index within none = let there = slice_get-get_or rows index (0, 0) within in absurd cc
+
+pub ruleset rows = (rows_grown, is_there)

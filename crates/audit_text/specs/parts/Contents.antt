@@ -142,13 +142,13 @@ image_parts it nodes =
     ∷ (path_or_bytes it.device_path nodes ++ rest_part it.rest ∷ [])
 
 -- A signature: its owner, and its data, or, as of a certificate, their length and their SHA-256.
-unfoldable pub hash_parts : Signature → List Part
+abbrev pub hash_parts : Signature → List Part
 hash_parts it =
     both (codes "owner") (codes "  signature of owner ") (guid it.owner)
     ∷ both (codes "data") (codes ": ") (plain (encode_lower it.payload))
     ∷ end ∷ []
 
-unfoldable pub certificate_parts : Signature → List Part
+abbrev pub certificate_parts : Signature → List Part
 certificate_parts it =
     both (codes "owner") (codes "  signature of owner ") (guid it.owner)
     ∷ both (codes "length") (codes ": ") (decimal (length it.payload))
@@ -172,7 +172,7 @@ list_parts it =
 
 -- A boot option: its attributes and its description, of which no unit is NUL, its path, and the data that the image is given, in JSON
 -- also as text, if all of it prints.
-unfoldable pub boot_option_line : LoadOption → List Part
+abbrev pub boot_option_line : LoadOption → List Part
 boot_option_line it =
     both (codes "attributes") (codes "  boot option with attributes ") (hexadecimal it.attributes)
     ∷ both (codes "description") (codes ": ") (text (flat_map unit_text (before_nul it.description)))

@@ -42,7 +42,7 @@ pub(crate) fn header_parts<'a>(alloc: Global, header: &EventLogHeader<'a>) -> Pa
 }
 
 /// Returns the algorithms of a header, in order, each with the size of its digests.
-#[tactic(auto, using(crate::proofs::words::SizeRows::rows_grown, crate::proofs::words::SizeRows::is_there))]
+#[tactic(auto, using(crate::proofs::words::SizeRows::rows))]
 fn size_values<'a>(
     alloc: Global,
     sizes: &AlgorithmDigestSizes<'_>,
@@ -120,23 +120,12 @@ pub(crate) fn described_parts<'a>(
 pub(crate) fn tagged_events_parts<'a>(alloc: Global, tagged: &TaggedData<'a>) -> PartsResult<'a>
     ensures { AreParts result (tagged_events_parts tagged.now.split.0.0 tagged.now.split.0.1) }
 {
-    let events = PartValue::List(tagged_values(alloc, tagged)?);
-    Ok(vec![in alloc; Part::new("events", "", events), Part::rest(tagged.rest())]?)
-}
-
-/// Returns the tagged events, in order.
-fn tagged_values<'a>(
-    alloc: Global,
-    tagged: &TaggedData<'a>,
-) -> Result<Vec<PartValue<'a>>, AllocError>
-    ensures { IfOk result (λ values. map value_of values.items
-        ≡ map (λ it. object (tagged_parts it)) tagged.now.split.0.0) }
-{
-    let mut values = Vec::new(alloc);
+    let mut events = Vec::new(alloc);
     for event in tagged.iter() {
-        values.push(PartValue::Object(tagged_parts(alloc, &event)?))?;
+        events.push(PartValue::Object(tagged_parts(alloc, &event)?))?;
     }
-    Ok(values)
+    let events = PartValue::List(events);
+    Ok(vec![in alloc; Part::new("events", "", events), Part::rest(tagged.rest())]?)
 }
 
 /// Returns the parts of a tagged event.

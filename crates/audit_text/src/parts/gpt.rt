@@ -1,12 +1,10 @@
-ghost use Rattle.std.specs.Prelude.{◌≡◌, map, IfOk};
 ghost use Rattle.tcg_event.specs.GptViews.{entry_of, gpt_of};
 ghost use Rattle.audit_text.specs.parts.Contents.{gpt_parts, partition_parts};
-ghost use Rattle.audit_text.specs.parts.Part.{object};
-ghost use Rattle.audit_text.specs.private.PartViews.{AreParts, value_of};
+ghost use Rattle.audit_text.specs.private.PartViews.{AreParts};
 
 use crate::parts::part::{Part, PartValue, PartsResult};
 use crate::words::texts::text_before_nul;
-use std::alloc::{AllocError, Global};
+use std::alloc::Global;
 use tcg_event::{GptData, GptEntry};
 
 /// Returns the parts of a partition table: the disk, and the partitions.
@@ -15,7 +13,10 @@ pub(crate) fn gpt_parts<'a>(alloc: Global, gpt: &GptData<'_>) -> PartsResult<'a>
     ensures { AreParts result (gpt_parts (gpt_of gpt.now)) }
 {
     let header = gpt.header();
-    let partitions = PartValue::List(partition_values(alloc, gpt)?);
+    let mut partitions = Vec::new(alloc);
+    for entry in gpt.iter() {
+        partitions.push(PartValue::Object(partition_parts(alloc, &entry)?))?;
+    }
     Ok(vec![in alloc;
         Part::new("disk_guid", "  disk ", PartValue::Guid(header.disk_guid)),
         Part::new(
@@ -29,20 +30,8 @@ pub(crate) fn gpt_parts<'a>(alloc: Global, gpt: &GptData<'_>) -> PartsResult<'a>
             PartValue::Decimal(header.last_usable_lba)
         ),
         Part::words("\n"),
-        Part::new("partitions", "", partitions),
+        Part::new("partitions", "", PartValue::List(partitions)),
     ]?)
-}
-
-/// Returns the partitions, in order.
-fn partition_values<'a>(alloc: Global, gpt: &GptData<'_>) -> Result<Vec<PartValue<'a>>, AllocError>
-    ensures { IfOk result (λ values. map value_of values.items
-        ≡ map (λ it. object (partition_parts it)) (gpt_of gpt.now).entries) }
-{
-    let mut values = Vec::new(alloc);
-    for entry in gpt.iter() {
-        values.push(PartValue::Object(partition_parts(alloc, &entry)?))?;
-    }
-    Ok(values)
 }
 
 /// Returns the parts of a partition, with its name up to the first NUL.

@@ -1,14 +1,12 @@
-ghost use Rattle.std.specs.Prelude.{◌≡◌, map, IfOk, option_map};
-ghost use Rattle.uefi_path.specs.Path.{all_but_last};
+ghost use Rattle.std.specs.Prelude.{option_map};
 ghost use Rattle.uefi_path.specs.Views.{node_of, path_nodes};
 ghost use Rattle.tcg_event.specs.Views.{image_of};
-ghost use Rattle.audit_text.specs.parts.Contents.{image_parts, node_parts, path_or_bytes, path_parts};
-ghost use Rattle.audit_text.specs.parts.Part.{object};
-ghost use Rattle.audit_text.specs.private.PartViews.{AreParts, value_of};
+ghost use Rattle.audit_text.specs.parts.Contents.{image_parts, node_parts, path_parts};
+ghost use Rattle.audit_text.specs.private.PartViews.{AreParts};
 
 use crate::parts::part::{Part, PartValue, PartsResult, joined};
 use crate::words::path_text;
-use std::alloc::{AllocError, Global};
+use std::alloc::Global;
 use tcg_event::ImageLoadEvent;
 use uefi_path::{DevicePath, DevicePathNode};
 
@@ -32,24 +30,13 @@ pub(crate) fn image_parts<'a>(
         Part::new("link_address", " bytes, linked for ", linked),
         Part::words("\n"),
     ]?;
-    let path = path_or_bytes(alloc, image.device_path, path)?;
+    let path = match path {
+        Some(path) => path_parts(alloc, path)?,
+        None => vec![in alloc; Part::bytes("path", "  path", image.device_path)]?,
+    };
     let mut parts = joined(numbers, path)?;
     parts.push(Part::rest(image.rest))?;
     Ok(parts)
-}
-
-/// Returns the parts of a device path; the bytes, if they are no path.
-fn path_or_bytes<'a>(
-    alloc: Global,
-    bytes: &'a [u8],
-    path: &Option<DevicePath<'a>>,
-) -> PartsResult<'a>
-    ensures { AreParts result (path_or_bytes bytes.now (option_map path_nodes path.now)) }
-{
-    match path {
-        Some(path) => path_parts(alloc, path),
-        None => Ok(vec![in alloc; Part::bytes("path", "  path", bytes)]?),
-    }
 }
 
 /// Returns the parts of a device path: its nodes before the one that ends it, and its text.
@@ -57,25 +44,16 @@ fn path_or_bytes<'a>(
 pub(crate) fn path_parts<'a>(alloc: Global, path: &DevicePath<'a>) -> PartsResult<'a>
     ensures { AreParts result (path_parts (path_nodes path.now)) }
 {
-    let nodes = PartValue::List(node_values(alloc, path)?);
+    let mut nodes = Vec::new(alloc);
+    for node in path.node_iter() {
+        nodes.push(PartValue::Object(node_parts(alloc, &node)?))?;
+    }
     let text = path_text(*path).to_string(alloc)?;
     Ok(vec![in alloc;
-        Part::in_json("path", nodes),
+        Part::in_json("path", PartValue::List(nodes)),
         Part::new("text", "  path ", PartValue::Plain(text)),
         Part::words("\n"),
     ]?)
-}
-
-/// Returns the nodes before the one that ends the path.
-fn node_values<'a>(alloc: Global, path: &DevicePath<'a>) -> Result<Vec<PartValue<'a>>, AllocError>
-    ensures { IfOk result (λ values. map value_of values.items
-        ≡ map (λ it. object (node_parts it)) (all_but_last (path_nodes path.now))) }
-{
-    let mut values = Vec::new(alloc);
-    for node in path.node_iter() {
-        values.push(PartValue::Object(node_parts(alloc, &node)?))?;
-    }
-    Ok(values)
 }
 
 /// Returns the parts of a node: its data, its subtype and its type.

@@ -1,12 +1,12 @@
 ghost use Rattle.std.specs.Prelude.{◌≡◌, IfOk};
 ghost use Rattle.tcg_event.specs.SignatureViews.{list_of, lists_of, signature_of};
-ghost use Rattle.audit_text.specs.parts.Contents.{certificate_parts, hash_parts, kind_parts, list_parts, signature_parts};
+ghost use Rattle.audit_text.specs.parts.Contents.{kind_parts, list_parts, signature_parts};
 ghost use Rattle.audit_text.specs.parts.Part.{objects};
 ghost use Rattle.audit_text.specs.private.PartViews.{AreParts, value_of};
 ghost use Rattle.audit_text.specs.words.Signatures.{signature_type_name};
 
 use crate::parts::part::{Part, PartValue, PartsResult, joined};
-use crate::words::signatures::{is_shown_whole, signature_type_name};
+use crate::words::signatures::{LONGEST_HASH, signature_type_name};
 use sha2::{Digest, Sha256};
 use std::alloc::{AllocError, Global};
 use tcg_event::{SignatureData, SignatureList, SignatureLists, SignatureType};
@@ -31,11 +31,14 @@ fn list_parts<'a>(alloc: Global, list: &SignatureList<'a>) -> PartsResult<'a>
     ensures { AreParts result (list_parts (list_of list.now)) }
 {
     let kind = kind_parts(alloc, list.signature_type())?;
-    let signatures = signatures_value(alloc, list)?;
+    let mut signatures = Vec::new(alloc);
+    for signature in list.iter() {
+        signatures.push(PartValue::Object(signature_parts(alloc, &signature)?))?;
+    }
     let others = vec![in alloc;
         Part::words("\n"),
         Part::bytes("header", "  header", list.header()),
-        Part::new("signatures", "", signatures),
+        Part::new("signatures", "", PartValue::List(signatures)),
     ]?;
     joined(kind, others)
 }
@@ -57,64 +60,29 @@ fn kind_parts<'a>(alloc: Global, kind: SignatureType) -> PartsResult<'a>
     }
 }
 
-/// Returns the signatures of a list, in order.
-fn signatures_value<'a>(
-    alloc: Global,
-    list: &SignatureList<'a>,
-) -> Result<PartValue<'a>, AllocError>
-    ensures { IfOk result
-        (λ value. value_of value ≡ objects signature_parts (list_of list.now).signatures) }
-{
-    let mut values = Vec::new(alloc);
-    for signature in list.iter() {
-        values.push(PartValue::Object(signature_parts(alloc, &signature)?))?;
-    }
-    Ok(PartValue::List(values))
-}
-
 /// Returns the parts of a signature: its owner, and its data, or their length and SHA-256.
 #[tactic(auto, unfolding(crate::specs::parts::Contents::signature_parts))]
 pub(crate) fn signature_parts<'a>(alloc: Global, signature: &SignatureData<'_>) -> PartsResult<'a>
     ensures { AreParts result (signature_parts (signature_of signature.now)) }
 {
-    if is_shown_whole(signature.data) {
-        hash_parts(alloc, signature)
-    } else {
-        certificate_parts(alloc, signature)
+    let owner = Part::new(
+        "owner",
+        "  signature of owner ",
+        PartValue::Guid(signature.owner),
+    );
+    if signature.data.len() <= LONGEST_HASH {
+        let digits = hex::encode(alloc, signature.data)?;
+        return Ok(vec![in alloc;
+            owner,
+            Part::new("data", ": ", PartValue::Plain(digits)),
+            Part::words("\n"),
+        ]?);
     }
-}
-
-/// Returns the parts of a signature with its data.
-#[tactic(auto, unfolding(crate::specs::parts::Contents::hash_parts))]
-fn hash_parts<'a>(alloc: Global, signature: &SignatureData<'_>) -> PartsResult<'a>
-    ensures { AreParts result (hash_parts (signature_of signature.now)) }
-{
-    let digits = hex::encode(alloc, signature.data)?;
-    Ok(vec![in alloc;
-        Part::new(
-            "owner",
-            "  signature of owner ",
-            PartValue::Guid(signature.owner)
-        ),
-        Part::new("data", ": ", PartValue::Plain(digits)),
-        Part::words("\n"),
-    ]?)
-}
-
-/// Returns the parts of a signature with the length and the SHA-256 of its data.
-#[tactic(auto, unfolding(crate::specs::parts::Contents::certificate_parts))]
-fn certificate_parts<'a>(alloc: Global, signature: &SignatureData<'_>) -> PartsResult<'a>
-    ensures { AreParts result (certificate_parts (signature_of signature.now)) }
-{
     let length = signature.data.len() as u64;
     let digest = Sha256::digest(signature.data);
     let digits = hex::encode(alloc, digest.as_slice())?;
     Ok(vec![in alloc;
-        Part::new(
-            "owner",
-            "  signature of owner ",
-            PartValue::Guid(signature.owner)
-        ),
+        owner,
         Part::new("length", ": ", PartValue::Decimal(length)),
         Part::new("sha256", " bytes with SHA-256 ", PartValue::Plain(digits)),
         Part::words("\n"),

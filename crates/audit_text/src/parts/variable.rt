@@ -3,7 +3,7 @@ ghost use Rattle.uefi_path.specs.LoadOptionViews.{load_option_of};
 ghost use Rattle.tcg_event.specs.BootOrderViews.{order_of};
 ghost use Rattle.tcg_event.specs.Views.{variable_of};
 ghost use Rattle.uefi_audits.specs.content.Value as values;
-ghost use Rattle.audit_text.specs.parts.Contents.{boot_option_line, boot_option_parts, optional_data_parts, value_parts, variable_parts};
+ghost use Rattle.audit_text.specs.parts.Contents.{boot_option_parts, optional_data_parts, value_parts, variable_parts};
 ghost use Rattle.audit_text.specs.parts.Part.{boot_number, list};
 ghost use Rattle.audit_text.specs.private.PartViews.{AreParts, part_of, value_of};
 
@@ -52,24 +52,16 @@ pub(crate) fn unread_parts<'a>(alloc: Global, bytes: &'a [u8]) -> PartsResult<'a
 pub(crate) fn boot_option_parts<'a>(alloc: Global, option: &LoadOption<'a>) -> PartsResult<'a>
     ensures { AreParts result (boot_option_parts (load_option_of option.now)) }
 {
-    let line = boot_option_line(alloc, option)?;
-    let path = path_parts(alloc, &option.file_path())?;
-    let data = optional_data_parts(alloc, option.optional_data())?;
-    joined(line, joined(path, data)?)
-}
-
-/// Returns the attributes and the description of a boot option.
-#[tactic(auto, unfolding(crate::specs::parts::Contents::boot_option_line))]
-fn boot_option_line<'a>(alloc: Global, option: &LoadOption<'_>) -> PartsResult<'a>
-    ensures { AreParts result (boot_option_line (load_option_of option.now)) }
-{
     let attributes = PartValue::Hexadecimal(u64::from(option.attributes().bits()));
     let description = PartValue::Text(description_text(alloc, option)?);
-    Ok(vec![in alloc;
+    let line = vec![in alloc;
         Part::new("attributes", "  boot option with attributes ", attributes),
         Part::new("description", ": ", description),
         Part::words("\n"),
-    ]?)
+    ]?;
+    let path = path_parts(alloc, &option.file_path())?;
+    let data = optional_data_parts(alloc, option.optional_data())?;
+    joined(line, joined(path, data)?)
 }
 
 /// Returns the data for the image of a boot option, and the text that they are.

@@ -1,18 +1,11 @@
-ghost use Rattle.std.specs.Prelude.{◌≡◌, nat_le, length, option_map};
-ghost use Rattle.audit_text.specs.words.Signatures.{longest_hash, signature_type_name};
+ghost use Rattle.std.specs.Prelude.{◌≡◌, option_map};
+ghost use Rattle.audit_text.specs.words.Signatures.{signature_type_name};
 
 use tcg_event::SignatureType;
 
 /// The longest data of a signature that are shown whole: a hash of 64 bytes, with the time of a
 /// revocation.
-const LONGEST_HASH: usize = 80;
-
-/// Returns whether the data of a signature are shown whole.
-pub(crate) fn is_shown_whole(bytes: &[u8]) -> bool
-    ensures { result ≡ nat_le (length bytes.now) longest_hash }
-{
-    bytes.len() <= LONGEST_HASH
-}
+pub(crate) const LONGEST_HASH: usize = 80;
 
 /// Returns what the signatures of a type are; `None` for a type without a name here.
 #[tactic(auto, unfolding(crate::specs::words::Signatures::signature_type_name))]
