@@ -23,13 +23,11 @@ nonce_text [] = codes "no nonce"
 nonce_text (byte ∷ bytes) = codes "nonce 0x" ++ encode_lower (byte ∷ bytes)
 
 -- The line of a quote's nonce, if it isn't the one that the quote was asked for with.
-unfoldable pub nonces_line : List ℕ → List ℕ → List ℕ → List ℕ
-nonces_line name quoted asked =
-    shown_name name ++ (codes ": has " ++ (nonce_text quoted ++ (codes ", not " ++ (nonce_text asked ++ codes "\n"))))
-
 unfoldable pub unless_asked : List ℕ → Option (List ℕ) → List ℕ → List ℕ
 unless_asked name None quoted = []
-unless_asked name (Some asked) quoted = if bytes_eq quoted asked then [] else nonces_line name quoted asked
+unless_asked name (Some asked) quoted =
+    if bytes_eq quoted asked then []
+    else shown_name name ++ (codes ": has " ++ (nonce_text quoted ++ (codes ", not " ++ (nonce_text asked ++ codes "\n"))))
 
 abbrev pub other_nonce_line : List ℕ → Received → List ℕ
 other_nonce_line name received = unless_asked name received.nonce received.quote.extra_data
@@ -56,7 +54,7 @@ digests_text quoted found locality =
     codes ": the quote has the digest 0x" ++ (encode_lower quoted ++ (codes ", the log leads to 0x" ++ (encode_lower found
     ++ (codes " (PCR 0 starts at locality " ++ (decimal locality ++ codes ")\n")))))
 
-unfoldable pub differ_line : List ℕ → Quote → List ℕ → ℕ → List ℕ
+abbrev pub differ_line : List ℕ → Quote → List ℕ → ℕ → List ℕ
 differ_line name quote found locality =
     shown_name name ++ (codes ": differs: " ++ (ranges_after None (covered_pcrs quote) ++ digests_text quote.pcr_digest found locality))
 
@@ -79,11 +77,11 @@ abbrev pub quote_verdict_line : List ℕ → QuoteJudgement → List ℕ
 quote_verdict_line name judgement = by_digest name judgement judgement.digest
 
 -- Why a log leads to no digest: a bank can't be replayed, or no event has a digest of it, or a PCR is undetermined.
-unfoldable pub no_bank_line : List ℕ → Option Bank → ℕ → List ℕ
+abbrev pub no_bank_line : List ℕ → Option Bank → ℕ → List ℕ
 no_bank_line name (Some bank) algorithm = inactive_line name bank
 no_bank_line name None algorithm = unsupported_line name (algorithm ∷ [])
 
-unfoldable pub no_value_line : List ℕ → Option Bank → ℕ → ℕ → Undetermined → List ℕ
+abbrev pub no_value_line : List ℕ → Option Bank → ℕ → ℕ → Undetermined → List ℕ
 no_value_line name (Some bank) algorithm pcr at = undetermined_line name bank pcr at
 no_value_line name None algorithm pcr at = unsupported_line name (algorithm ∷ [])
 

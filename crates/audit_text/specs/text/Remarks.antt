@@ -18,7 +18,7 @@ start_lines name known =
 
 -- The line of a bank of which no event has a digest.
 unfoldable pub inactive_line : List ℕ → Bank → List ℕ
-inactive_line name bank = shown_name name ++ codes ": no event has a digest of the bank " ++ bank_name bank ++ codes "\n"
+inactive_line name bank = shown_name name ++ (codes ": no event has a digest of the bank " ++ (bank_name bank ++ codes "\n"))
 
 -- The one line of all algorithms whose banks can't be replayed, if there are any.
 unfoldable pub unsupported_line : List ℕ → List ℕ → List ℕ

@@ -1,11 +1,10 @@
 ghost use Rattle.std.specs.Prelude.{◌≡◌, flat_map, map, OnOk};
 ghost use Rattle.uefi_base.specs.Appending.{AppendsText};
-ghost use Rattle.pcr_replay.specs.Views.{outcome_of, outcomes_of};
+ghost use Rattle.pcr_replay.specs.Views.{outcome_of};
 ghost use Rattle.pcr_replay.specs.BankReplays.{bank_outcomes_of};
-ghost use Rattle.uefi_audits.specs.Numbered.{numbered};
 ghost use Rattle.audit_text.specs.text.Pcrs.{bank_lines, padding, pcr_line};
 
-use pcr_replay::{BankPcrs, PcrValue, Pcrs, Undetermined};
+use pcr_replay::{BankPcrs, PcrValue, Undetermined};
 use std::alloc::{AllocError, Allocator};
 use uefi_audits::naming::bank_name;
 
@@ -46,19 +45,7 @@ pub fn push_bank<A: Allocator + Copy>(
 {
     let name = bank_name(bank.bank);
     writeln!(text, "  {name}:")?;
-    push_pcrs(text, alloc, &bank.pcrs)
-}
-
-/// Appends a line for each PCR.
-fn push_pcrs<A: Allocator + Copy>(
-    text: &mut String<A>,
-    alloc: A,
-    pcrs: &Pcrs,
-) -> Result<(), AllocError>
-    ensures { OnOk result
-        (AppendsText text.old text.new (numbered pcr_line 0 (outcomes_of pcrs.now))) }
-{
-    let outcomes = pcrs.outcomes();
+    let outcomes = bank.pcrs.outcomes();
     for number in 0..outcomes.len() {
         push_pcr(text, alloc, number, &outcomes[number])?;
     }

@@ -1,6 +1,6 @@
 //! The lines of what was checked.
 
-ghost use Rattle.std.specs.Prelude.{◌≡◌, ◌++◌, flat_map, map, IfOk, OnOk};
+ghost use Rattle.std.specs.Prelude.{flat_map, map, IfOk, OnOk};
 ghost use Rattle.uefi_base.specs.Appending.{AppendsText};
 ghost use Rattle.uefi_audits.specs.CheckResult.{all_forms, mismatch_of};
 ghost use Rattle.uefi_audits.specs.OutOfPlace.{remarks_of};
@@ -43,7 +43,10 @@ pub fn push_check<A: Allocator>(
 {
     push_mismatches(text, name, found.mismatches.as_slice())?;
     push_remarks(text, name, &found.remarks)?;
-    push_types(text, found.types.as_slice())
+    for counts in &found.types {
+        push_counts(text, counts)?;
+    }
+    Ok(())
 }
 
 /// Appends a line for each event that matches in none of its type's forms.
@@ -80,16 +83,6 @@ fn push_mismatch<A: Allocator>(
         text,
         ", PCR {pcr}) matches in none of the forms of its type"
     )
-}
-
-/// Appends a line for each type.
-fn push_types<A: Allocator>(text: &mut String<A>, types: &[TypeCounts]) -> Result<(), AllocError>
-    ensures { OnOk result (AppendsText text.old text.new (flat_map counts_line types.now)) }
-{
-    for counts in types {
-        push_counts(text, counts)?;
-    }
-    Ok(())
 }
 
 /// Appends the line of a type.

@@ -1,6 +1,6 @@
 ghost use Rattle.std.specs.Prelude.{OnOk};
 ghost use Rattle.uefi_base.specs.Appending.{AppendsText};
-ghost use Rattle.audit_text.specs.text.Missing.{missing_line, missing_lines};
+ghost use Rattle.audit_text.specs.text.Missing.{missing_lines};
 
 use shown::ShownName;
 use std::alloc::{AllocError, Allocator};
@@ -22,24 +22,11 @@ pub fn push_missing<A: Allocator>(
         (AppendsText messages.old messages.new (missing_lines name.now missing.now)) }
 {
     for pcr in missing {
-        push_line(messages, name, pcr)?;
+        let (name, bank, pcr) = (ShownName(name), bank_name(pcr.bank), pcr.pcr);
+        writeln!(
+            messages,
+            "{name}: states no {bank} PCR {pcr}, which is asked for"
+        )?;
     }
     Ok(())
-}
-
-/// Appends the line of a PCR.
-#[tactic(auto, unfolding(crate::specs::text::Missing::missing_line))]
-fn push_line<A: Allocator>(
-    messages: &mut String<A>,
-    name: &str,
-    missing: &NamedPcr,
-) -> Result<(), AllocError>
-    ensures { OnOk result
-        (AppendsText messages.old messages.new (missing_line name.now missing.now)) }
-{
-    let (name, bank, pcr) = (ShownName(name), bank_name(missing.bank), missing.pcr);
-    writeln!(
-        messages,
-        "{name}: states no {bank} PCR {pcr}, which is asked for"
-    )
 }

@@ -1,20 +1,18 @@
 ghost use Rattle.std.specs.Prelude.{◌≡◌, OnOk};
 ghost use Rattle.uefi_base.specs.Appending.{AppendsText};
 ghost use Rattle.tpm_quote.specs.Views.{clock_info_of};
-ghost use Rattle.uefi_audits.specs.Naming.{bank_of};
 ghost use Rattle.uefi_audits.specs.verify.Quote.{quote_judgement_of, received_of};
-ghost use Rattle.audit_text.specs.text.Quote.{by_digest, clock_text, differ_line, digests_text, nonce_differs_line, nonce_text, nonces_line, no_bank_line, no_digest_line, no_pcr_line, no_value_line, other_nonce_line, quote_line, quote_verdict_line, safe_text, unless_asked};
+ghost use Rattle.audit_text.specs.text.Quote.{clock_text, digests_text, no_digest_line, no_pcr_line, nonce_differs_line, nonce_text, other_nonce_line, quote_line, quote_verdict_line, safe_text};
 
 use crate::text::agreement::{push_agreement, push_ranges};
 use crate::text::undetermined::push_line;
 use crate::text::unreplayed::{push_inactive, push_unsupported};
-use pcr_replay::{NoQuoteDigest, Undetermined};
+use pcr_replay::NoQuoteDigest;
 use shown::ShownName;
 use std::alloc::{AllocError, Allocator};
 use tpm_quote::ClockInfo;
 use uefi_audits::naming::{bank_name, bank_of};
 use uefi_audits::verify::{NamedPcr, QuoteVerdict, ReceivedQuote, covered_pcrs};
-use uefi_tcg::{AlgorithmId, PcrIndex};
 
 /// Appends the line of a quote's nonce, if it isn't the one that the quote was asked for with. The
 /// line begins with `name`, that of the quote's file.
@@ -38,26 +36,11 @@ pub fn push_other_nonce<A: Allocator + Copy>(
     if received.has_its_nonce() {
         return Ok(());
     }
-    push_nonces(text, alloc, name, received.quote.extra_data(), nonce)
-}
-
-/// Appends the line of a nonce that isn't the one that was asked for.
-#[tactic(auto, unfolding(crate::specs::text::Quote::nonces_line))]
-fn push_nonces<A: Allocator + Copy>(
-    text: &mut String<A>,
-    alloc: A,
-    name: &str,
-    quoted: &[u8],
-    asked: &[u8],
-) -> Result<(), AllocError>
-    ensures { OnOk result (AppendsText text.old text.new
-        (nonces_line name.now quoted.now asked.now)) }
-{
     let name = ShownName(name);
     write!(text, "{name}: has ")?;
-    push_nonce(text, alloc, quoted)?;
+    push_nonce(text, alloc, received.quote.extra_data())?;
     text.push_str(", not ")?;
-    push_nonce(text, alloc, asked)?;
+    push_nonce(text, alloc, nonce)?;
     text.push_str("\n")
 }
 
@@ -130,7 +113,7 @@ fn safe_text(safe: bool) -> &'static str
 /// # Errors
 ///
 /// [`AllocError`] if an allocation fails. The text may have grown then.
-#[tactic(auto, unfolding(crate::specs::text::Quote::by_digest, crate::specs::text::Quote::differ_line))]
+#[tactic(auto, unfolding(crate::specs::text::Quote::by_digest))]
 pub fn push_quote_verdict<A: Allocator + Copy>(
     text: &mut String<A>,
     alloc: A,
@@ -211,40 +194,14 @@ pub fn push_no_digest(
         (AppendsText messages.old messages.new (no_digest_line name.now why)) }
 {
     match why {
-        NoQuoteDigest::NoBank(algorithm) => push_no_bank(messages, name, algorithm),
-        NoQuoteDigest::Undetermined(algorithm, pcr, at) => {
-            push_no_value(messages, name, algorithm, pcr, &at)
-        }
-    }
-}
-
-/// Appends that the bank of an algorithm isn't in a log.
-#[tactic(auto, unfolding(crate::specs::text::Quote::no_bank_line))]
-fn push_no_bank(messages: &mut String, name: &str, algorithm: AlgorithmId) -> Result<(), AllocError>
-    ensures { OnOk result (AppendsText messages.old messages.new
-        (no_bank_line name.now (bank_of algorithm.0) algorithm.0)) }
-{
-    match bank_of(algorithm) {
-        Some(bank) => push_inactive(messages, name, &[bank]),
-        None => push_unsupported(messages, name, &[algorithm.0]),
-    }
-}
-
-/// Appends by which event a PCR is undetermined.
-#[tactic(auto, unfolding(crate::specs::text::Quote::no_value_line))]
-fn push_no_value(
-    messages: &mut String,
-    name: &str,
-    algorithm: AlgorithmId,
-    pcr: PcrIndex,
-    at: &Undetermined,
-) -> Result<(), AllocError>
-    ensures { OnOk result (AppendsText messages.old messages.new
-        (no_value_line name.now (bank_of algorithm.0) algorithm.0 pcr.0 at.now)) }
-{
-    match bank_of(algorithm) {
-        Some(bank) => push_line(messages, name, bank, pcr.0 as usize, at),
-        None => push_unsupported(messages, name, &[algorithm.0]),
+        NoQuoteDigest::NoBank(algorithm) => match bank_of(algorithm) {
+            Some(bank) => push_inactive(messages, name, &[bank]),
+            None => push_unsupported(messages, name, &[algorithm.0]),
+        },
+        NoQuoteDigest::Undetermined(algorithm, pcr, at) => match bank_of(algorithm) {
+            Some(bank) => push_line(messages, name, bank, pcr.0 as usize, &at),
+            None => push_unsupported(messages, name, &[algorithm.0]),
+        },
     }
 }
 

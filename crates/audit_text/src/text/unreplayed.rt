@@ -23,23 +23,10 @@ pub fn push_inactive<A: Allocator>(
         (flat_map (inactive_line name.now) banks.now)) }
 {
     for bank in banks {
-        push_line(messages, name, *bank)?;
+        let (name, bank) = (ShownName(name), bank_name(*bank));
+        writeln!(messages, "{name}: no event has a digest of the bank {bank}")?;
     }
     Ok(())
-}
-
-/// Appends that no event has a digest of a bank.
-#[tactic(auto, unfolding(crate::specs::text::Remarks::inactive_line))]
-fn push_line<A: Allocator>(
-    messages: &mut String<A>,
-    name: &str,
-    bank: Bank,
-) -> Result<(), AllocError>
-    ensures { OnOk result
-        (AppendsText messages.old messages.new (inactive_line name.now bank)) }
-{
-    let (name, bank) = (ShownName(name), bank_name(bank));
-    writeln!(messages, "{name}: no event has a digest of the bank {bank}")
 }
 
 /// Appends which banks can't be replayed, those of these algorithms, if there are any.
@@ -72,16 +59,8 @@ fn push_others(messages: &mut String, algorithms: &[u16]) -> Result<(), AllocErr
         (flat_map (λ other. codes ", " ++ hex_text other) algorithms.now)) }
 {
     for algorithm in algorithms {
-        push_other(messages, *algorithm)?;
+        messages.push_str(", ")?;
+        push_number(messages, *algorithm)?;
     }
     Ok(())
-}
-
-/// Appends a comma and an algorithm.
-fn push_other(messages: &mut String, algorithm: u16) -> Result<(), AllocError>
-    ensures { OnOk result
-        (AppendsText messages.old messages.new (codes ", " ++ hex_text algorithm)) }
-{
-    messages.push_str(", ")?;
-    push_number(messages, algorithm)
 }

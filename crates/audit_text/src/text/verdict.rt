@@ -1,4 +1,4 @@
-ghost use Rattle.std.specs.Prelude.{flat_map, OnOk};
+ghost use Rattle.std.specs.Prelude.{OnOk};
 ghost use Rattle.std.specs.Option.{option_map};
 ghost use Rattle.uefi_base.specs.Appending.{AppendsText};
 ghost use Rattle.pcr_replay.specs.Views.{outcome_of, value_of};
@@ -32,20 +32,6 @@ pub fn push_verdict<A: Allocator + Copy>(
         let named = named_pcrs(alloc, held)?;
         return push_agreement(text, name, named.as_slice(), verdict.start.start.locality);
     }
-    push_disagreements(text, alloc, name, held, verdict)
-}
-
-/// Appends a line for each PCR that doesn't agree.
-fn push_disagreements<A: Allocator + Copy>(
-    text: &mut String<A>,
-    alloc: A,
-    name: &str,
-    held: &[HeldPcr],
-    verdict: &Verdict<A>,
-) -> Result<(), AllocError>
-    ensures { OnOk result (AppendsText text.old text.new
-        (flat_map (line_of name.now (comparison_of verdict.now)) held.now)) }
-{
     for pcr in held {
         push_if_disagreeing(text, alloc, name, pcr, verdict)?;
     }

@@ -1,8 +1,8 @@
-ghost use Rattle.std.specs.Prelude.{flat_map, map, OnOk};
+ghost use Rattle.std.specs.Prelude.{map, OnOk};
 ghost use Rattle.uefi_base.specs.Appending.{AppendsText};
 ghost use Rattle.uefi_tcg.specs.LogViews.{entry_of, event_of};
 ghost use Rattle.uefi_tcg.specs.v2.Views.{header_of};
-ghost use Rattle.audit_text.specs.text.Events.{AreEventBlocks, IsEventBody, digest_line, event_start, first_line, header_block};
+ghost use Rattle.audit_text.specs.text.Events.{AreEventBlocks, digest_line, event_start, first_line, header_block, IsEventBody};
 ghost use Rattle.audit_text.specs.words.Events.{AppendsSome};
 
 use crate::parts::header_parts;
@@ -131,19 +131,10 @@ fn push_body(
         text.old text.new) }
 {
     let content = read_content(event, uintn_size);
-    push_digests(text, alloc, event)?;
-    push_content(text, alloc, &content, event.event_data())
-}
-
-/// Appends a line for each digest of an event.
-fn push_digests(text: &mut String, alloc: Global, event: &LogEvent<'_>) -> Result<(), AllocError>
-    ensures { OnOk result (AppendsText text.old text.new
-        (flat_map digest_line (event_of event.now).digests)) }
-{
     for (algorithm, digest) in event.digests() {
         push_digest(text, alloc, algorithm, digest)?;
     }
-    Ok(())
+    push_content(text, alloc, &content, event.event_data())
 }
 
 /// Appends the line of a digest.

@@ -1,6 +1,4 @@
-ghost use Rattle.std.specs.Prelude.{◌++◌, ◌/◌, ◌%◌, ◌∷◌, [], codes, map, OnOk};
-ghost use Rattle.hex.specs.Hex.{encode_upper};
-ghost use Rattle.std.specs.List.{flat_map};
+ghost use Rattle.std.specs.Prelude.{map, OnOk};
 ghost use Rattle.uefi_base.specs.Appending.{AppendsText};
 ghost use Rattle.uefi_audits.specs.content.Views.{content_of};
 ghost use Rattle.audit_text.specs.parts.Part.{guid as guid_value, lines_of};
@@ -61,7 +59,11 @@ fn push_value(text: &mut String, alloc: Global, value: &PartValue<'_>) -> Result
         PartValue::Empty => Ok(()),
         PartValue::Decimal(number) => write!(text, "{number}"),
         PartValue::Hexadecimal(number) => write!(text, "0x{number:x}"),
-        PartValue::BootNumber(number) => push_boot_number(text, alloc, *number),
+        PartValue::BootNumber(number) => {
+            let bytes = [(*number / 256) as u8, (*number % 256) as u8];
+            let digits = hex::encode_upper(alloc, &bytes)?;
+            write!(text, " Boot{digits}")
+        }
         PartValue::Guid(guid) => push_guid(text, guid),
         PartValue::Text(said) => {
             let said = ShownName(said.as_str());
@@ -70,34 +72,13 @@ fn push_value(text: &mut String, alloc: Global, value: &PartValue<'_>) -> Result
         PartValue::Plain(said) => text.push_str(said.as_str()),
         PartValue::Bytes(bytes) => push_bytes(text, alloc, bytes),
         PartValue::Object(parts) => push_parts(text, alloc, parts),
-        PartValue::List(values) => push_values(text, alloc, values),
+        PartValue::List(values) => {
+            for value in values {
+                push_value(text, alloc, value)?;
+            }
+            Ok(())
+        }
     }
-}
-
-/// Appends the values of a list.
-#[cycle(lines)]
-fn push_values(
-    text: &mut String,
-    alloc: Global,
-    values: &Vec<PartValue<'_>>,
-) -> Result<(), AllocError>
-    ensures { OnOk result (AppendsText text.old text.new
-        (flat_map (λ value. value.shown) (map value_of values.now.items))) }
-{
-    for value in values {
-        push_value(text, alloc, value)?;
-    }
-    Ok(())
-}
-
-/// Appends a space, `Boot`, and the four digits of a number.
-fn push_boot_number(text: &mut String, alloc: Global, number: u16) -> Result<(), AllocError>
-    ensures { OnOk result (AppendsText text.old text.new
-        (codes " Boot" ++ encode_upper (number / 256 ∷ number % 256 ∷ []))) }
-{
-    let bytes = [(number / 256) as u8, (number % 256) as u8];
-    let digits = hex::encode_upper(alloc, &bytes)?;
-    write!(text, " Boot{digits}")
 }
 
 /// Appends a GUID.

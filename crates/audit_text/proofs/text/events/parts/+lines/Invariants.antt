@@ -9,7 +9,7 @@ abbrev pub invariant-push_parts-loop-part : goal.invariant-push_parts-loop-part
 invariant-push_parts-loop-part l =
     string_bytes l.text ≡ string_bytes l.initial.text ++ lines_of (map part_of (take l.part-index l.part-items))
 
-abbrev pub invariant-push_values-loop-value : goal.invariant-push_values-loop-value
-invariant-push_values-loop-value l =
+abbrev pub invariant-push_value-loop-value : goal.invariant-push_value-loop-value
+invariant-push_value-loop-value l =
     string_bytes l.text
     ≡ string_bytes l.initial.text ++ flat_map (λ value. value.shown) (map value_of (take l.value-index l.value-items))

@@ -1,11 +1,11 @@
-use Rattle.std.proofs.Common.{◌≡◌, ◌++◌, List, subst, string_bytes}
+use Rattle.std.proofs.Common.{◌≡◌, ◌∙◌, ◌++◌, List, false, subst, string_bytes, sym}
 use Rattle.std.specs.Prelude.{flat_map}
 use Rattle.std.proofs.lemmas.List.{take_all}
 use Rattle.uefi_audits.specs.declared.verify.held.HeldPcr.{HeldPcr}
-use Rattle.uefi_audits.specs.verify.Verdict.{comparison_of}
+use Rattle.uefi_audits.specs.verify.Verdict.{comparison_of, is_agreement}
 use Rattle.audit_text.specs.text.Verdict.{line_of}
 use Rattle.audit_text.proofs.text.Appending.{lines_upto}
-use Rattle.audit_text.proofs.text.verdict.push_disagreements.Goals as goal
+use Rattle.audit_text.proofs.text.verdict.push_verdict.Goals as goal
 
 pub loop-pcr-preserved : goal.loop-pcr-preserved
 loop-pcr-preserved g c =
@@ -20,5 +20,6 @@ loop-pcr-preserved g c =
 pub returns : goal.returns
 returns g c =
     let line : HeldPcr → List _ = line_of c.args.name.now (comparison_of c.args.verdict.now) in
-    subst (λ (held : List HeldPcr). string_bytes c.loop-pcr.text ≡ string_bytes c.args.text.now ++ flat_map line held)
-    (take_all c.loop-pcr.pcr-index c.args.held.now c.loop-pcr-test.false) c.loop-pcr.invariant
+    let differs : is_agreement (comparison_of c.args.verdict.now) ≡ false = sym c.is_agreement.ensures ∙ c.if-is_agreement.false in
+    rw differs (subst (λ (held : List HeldPcr). string_bytes c.loop-pcr.text ≡ string_bytes c.args.text.now ++ flat_map line held)
+    (take_all c.loop-pcr.pcr-index c.args.held.now c.loop-pcr-test.false) c.loop-pcr.invariant)

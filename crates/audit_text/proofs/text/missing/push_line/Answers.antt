@@ -1,7 +1,0 @@
-use Rattle.std.proofs.Common.{append_assoc}
-use Rattle.audit_text.specs.text.Missing.{missing_line}
-use Rattle.audit_text.proofs.text.missing.push_line.Goals as goal
-
-pub returns : goal.returns
-unfolding missing_line
-returns g c = simp append_assoc (simp c.bank_name-bank.ensures at c.writeln.ensures.bytes)
