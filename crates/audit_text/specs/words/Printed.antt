@@ -14,7 +14,7 @@ if_printed text count =
     if nat_lt 1 (length text) && (nat_le count (length text + 1) && list_all prints text) then Some text else None
 
 -- That of characters of two bytes each, as in UTF-16; and that of characters of one byte each, or else of two.
-unfoldable pub wide_text : List ℕ → Option (List ℕ)
+abbrev pub wide_text : List ℕ → Option (List ℕ)
 wide_text bytes =
     if length bytes % 2 == 0 then if_printed (flat_map unit_text (before_nul (units_of bytes))) (length (units_of bytes)) else None
 

@@ -54,7 +54,7 @@ version_words (guid bytes) = guid_text bytes
 version_words (other it) = event_words it
 
 -- A device path, by its nodes; the first of its bytes in hex, if they are no path.
-unfoldable pub path_words : List ℕ → Option (List Node) → List ℕ
+abbrev pub path_words : List ℕ → Option (List Node) → List ℕ
 path_words bytes (Some nodes) = path_text nodes
 path_words bytes None = shown_hex bytes
 

@@ -1,6 +1,6 @@
 ghost use Rattle.std.specs.Prelude.{◌≡◌, IfOk, encode_utf8, option_map, string_bytes};
 ghost use Rattle.std.specs.List.{flat_map, list_all};
-ghost use Rattle.audit_text.specs.words.Printed.{if_printed, or_wide, printed_text, prints, wide_text};
+ghost use Rattle.audit_text.specs.words.Printed.{if_printed, or_wide, printed_text, prints};
 ghost use Rattle.audit_text.specs.words.Texts.{before_nul};
 
 use crate::words::texts::text_before_nul;
@@ -14,17 +14,9 @@ pub(crate) fn printed_text(alloc: Global, bytes: &[u8]) -> Result<Option<String>
     ensures { IfOk result (λ text. option_map string_bytes text ≡ printed_text bytes.now) }
 {
     let text = bytes_before_nul(alloc, bytes)?;
-    match if_printed(text, bytes.len()) {
-        Some(text) => Ok(Some(text)),
-        None => wide_text(alloc, bytes),
+    if let Some(text) = if_printed(text, bytes.len()) {
+        return Ok(Some(text));
     }
-}
-
-/// Returns the text that characters of two bytes each are, if all of it prints.
-#[tactic(auto, unfolding(crate::specs::words::Printed::wide_text))]
-fn wide_text(alloc: Global, bytes: &[u8]) -> Result<Option<String>, AllocError>
-    ensures { IfOk result (λ text. option_map string_bytes text ≡ wide_text bytes.now) }
-{
     if bytes.len() % 2 != 0 {
         return Ok(None);
     }

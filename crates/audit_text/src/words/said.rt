@@ -1,13 +1,11 @@
-ghost use Rattle.std.specs.Prelude.{◌≡◌, encode_utf8, IfOk, OnOk, option_map};
-ghost use Rattle.std.specs.List.{flat_map};
+ghost use Rattle.std.specs.Prelude.{◌≡◌, IfOk, OnOk, option_map};
 ghost use Rattle.std.specs.Str.{chars};
 ghost use Rattle.uefi_base.specs.Appending.{AppendsText};
 ghost use Rattle.uefi_base.specs.Views.{slice_units};
 ghost use Rattle.uefi_path.specs.Views.{path_nodes};
 ghost use Rattle.tcg_event.specs.Views.{image_of, text_of, version_of};
-ghost use Rattle.audit_text.specs.words.Said.{event_words, image_text, more, path_words, said, shown_bytes, shown_hex, shown_one, shown_text, shown_units, tagged_words, version_words};
+ghost use Rattle.audit_text.specs.words.Said.{event_words, image_text, more, said, shown_bytes, shown_hex, shown_text, shown_units, tagged_words, version_words};
 ghost use Rattle.uefi_audits.specs.content.Views.{content_of};
-ghost use Rattle.shown.specs.Name.{shown_name};
 
 use crate::words::path_text;
 use crate::words::tags::push_tag;
@@ -121,7 +119,11 @@ fn push_text(text: &mut String, alloc: Global, said: &str) -> Result<(), AllocEr
     let characters = characters_of(alloc, said)?;
     let all = characters.as_slice();
     let (first, rest) = all.split_at(SHOWN_LENGTH.min(all.len()));
-    push_characters(text, first)?;
+    for character in first {
+        let mut room = [0; 4];
+        let shown = ShownName(character.encode_utf8(&mut room));
+        write!(text, "{shown}")?;
+    }
     push_more(text, rest.len())
 }
 
@@ -130,25 +132,6 @@ fn characters_of(alloc: Global, text: &str) -> Result<Vec<char>, AllocError>
     ensures { IfOk result (λ found. found.items ≡ chars text.now) }
 {
     text.chars().collect(alloc)
-}
-
-/// Appends characters as those of a file's name are shown.
-fn push_characters(text: &mut String, characters: &[char]) -> Result<(), AllocError>
-    ensures { OnOk result (AppendsText text.old text.new (flat_map shown_one characters.now)) }
-{
-    for character in characters {
-        push_character(text, *character)?;
-    }
-    Ok(())
-}
-
-/// Appends a character as that of a file's name is shown.
-fn push_character(text: &mut String, character: char) -> Result<(), AllocError>
-    ensures { OnOk result (AppendsText text.old text.new (shown_name (encode_utf8 character))) }
-{
-    let mut room = [0; 4];
-    let shown = ShownName(character.encode_utf8(&mut room));
-    write!(text, "{shown}")
 }
 
 /// Appends the first units as text.
@@ -219,25 +202,12 @@ fn push_image(
         return text.push_str("image");
     }
     text.push_str("image ")?;
-    push_path(text, image.device_path, path)
-}
-
-/// Appends the text of a device path; the first of these bytes in hex, if they are none.
-#[tactic(auto, unfolding(crate::specs::words::Said::path_words))]
-fn push_path(
-    text: &mut String,
-    bytes: &[u8],
-    path: &Option<DevicePath<'_>>,
-) -> Result<(), AllocError>
-    ensures { OnOk result (AppendsText text.old text.new
-        (path_words bytes.now (option_map path_nodes path.now))) }
-{
     match path {
         Some(path) => {
             let path = path_text(*path);
             write!(text, "{path}")
         }
-        None => push_hex(text, bytes),
+        None => push_hex(text, image.device_path),
     }
 }
 

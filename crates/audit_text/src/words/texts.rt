@@ -47,10 +47,7 @@ pub(crate) fn text_before_nul(
 pub(crate) fn character(unit: u16) -> char
     ensures { encode_utf8 result ≡ unit_text unit }
 {
-    match char::from_u32(u32::from(unit)) {
-        Some(character) => character,
-        None => '\u{fffd}',
-    }
+    char::from_u32(u32::from(unit)).unwrap_or('\u{fffd}')
 }
 
 /// Returns bytes as text: each is the character of its number.
