@@ -30,7 +30,7 @@ clock_json clock_info =
     ∷ (codes "safe", boolean clock_info.safe) ∷ [])
 
 -- The digest to which a log leads, in hex; `null` if there is none.
-unfoldable pub digest_json : Result (List ℕ) NoQuoteDigest → Json
+abbrev pub digest_json : Result (List ℕ) NoQuoteDigest → Json
 digest_json (Ok digest) = string (encode_lower digest)
 digest_json (Err why) = null
 

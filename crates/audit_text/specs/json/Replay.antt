@@ -17,7 +17,7 @@ use Rattle.uefi_audits.specs.Naming.{bank_name, bank_of}
 use Rattle.uefi_audits.specs.Numbered.{numbered}
 
 -- A PCR: its value in hex, or `null` if it's undetermined.
-unfoldable pub outcome_json : Outcome → Json
+abbrev pub outcome_json : Outcome → Json
 outcome_json (Ok value) = string (encode_lower value)
 outcome_json (Err at) = null
 

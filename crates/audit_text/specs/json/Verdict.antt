@@ -16,7 +16,7 @@ use Rattle.uefi_audits.specs.verify.Verdict.{agrees, is_agreement, led_to}
 use Rattle.audit_text.specs.json.Coverage.{covered_json, not_covered_json, unless}
 
 -- What the log leads to in a PCR, in hex; `null` if it leads to no value.
-unfoldable pub led_json : Option Outcome → Json
+abbrev pub led_json : Option Outcome → Json
 led_json None = null
 led_json (Some (Ok value)) = string (encode_lower value)
 led_json (Some (Err at)) = null

@@ -2,7 +2,7 @@ ghost use Rattle.std.specs.Prelude.{IfOk, OnOk, map, option_map};
 ghost use Rattle.pcr_replay.specs.Views.{outcome_of, outcomes_of};
 ghost use Rattle.pcr_replay.specs.BankReplays.{bank_outcomes_of};
 ghost use Rattle.audit_text.specs.private.JsonValues.{AppendsValues, AreValuesOf, IsValueOf};
-ghost use Rattle.audit_text.specs.json.Replay.{bank_json, banks_json, if_undetermined, outcome_json, undetermined_json};
+ghost use Rattle.audit_text.specs.json.Replay.{bank_json, banks_json, if_undetermined, undetermined_json};
 ghost use Rattle.uefi_audits.specs.Numbered.{numbered};
 
 use crate::json::event::hex_json;
@@ -35,25 +35,14 @@ fn bank_json(alloc: Global, bank: &BankPcrs) -> Result<Value, AllocError>
     let name = bank_name(bank.bank);
     let mut pcrs = Vec::new(alloc);
     for outcome in bank.pcrs.outcomes() {
-        pcrs.push(outcome_json(alloc, outcome)?)?;
+        pcrs.push(match outcome {
+            Ok(value) => hex_json(alloc, value.as_bytes())?,
+            Err(_) => Value::Null,
+        })?;
     }
     let pcrs = Value::Array(pcrs);
     let undetermined = Value::Array(all_undetermined(alloc, &bank.pcrs)?);
     json!(in alloc; {"algorithm": name, "pcrs": pcrs, "undetermined": undetermined})
-}
-
-/// Returns a PCR's value in hex; `null` if it is undetermined.
-#[tactic(auto, unfolding(crate::specs::json::Replay::outcome_json))]
-fn outcome_json(
-    alloc: Global,
-    outcome: &Result<PcrValue, Undetermined>,
-) -> Result<Value, AllocError>
-    ensures { IfOk result (IsValueOf (outcome_json (outcome_of outcome.now))) }
-{
-    match outcome {
-        Ok(value) => hex_json(alloc, value.as_bytes()),
-        Err(_) => Ok(Value::Null),
-    }
 }
 
 /// Returns the events by which PCRs are undetermined, in the order of the PCRs.

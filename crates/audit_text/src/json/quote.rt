@@ -1,20 +1,17 @@
 ghost use Rattle.std.specs.Prelude.{map, IfOk, OnOk};
-ghost use Rattle.std.specs.Result.{result_map_both};
 ghost use Rattle.uefi_base.specs.Appending.{AppendsText};
 ghost use Rattle.tpm_quote.specs.PcrSelection.{selected_pcrs};
 ghost use Rattle.tpm_quote.specs.Views.{clock_info_of, quote_of, selection_of};
-ghost use Rattle.pcr_replay.specs.Views.{value_of};
 ghost use Rattle.uefi_audits.specs.verify.Compared.{judged_quote_of};
 ghost use Rattle.uefi_audits.specs.verify.Quote.{has_its_nonce, quote_judgement_of, received_of};
 ghost use Rattle.audit_text.specs.json.Coverage.{pcr_number};
 ghost use Rattle.audit_text.specs.private.JsonValues.{AreValuesOf, IsValueOf};
-ghost use Rattle.audit_text.specs.json.Quote.{clock_json, digest_json, failed_json, nonce_agrees_json, quote_json, quote_line, quote_object, selection_json};
+ghost use Rattle.audit_text.specs.json.Quote.{clock_json, failed_json, nonce_agrees_json, quote_json, quote_line, quote_object, selection_json};
 
 use crate::json::coverage::{covered_json, not_covered_json, push_unless};
 use crate::json::digests::algorithm_json;
 use crate::json::event::hex_json;
 use crate::json::line::push_line;
-use pcr_replay::{NoQuoteDigest, PcrValue};
 use serde_json::{Map, Value, json, put};
 use std::alloc::{AllocError, Global};
 use tpm_quote::{ClockInfo, PcrSelection, Quote};
@@ -123,7 +120,10 @@ fn quote_object(alloc: Global, verdict: &QuoteVerdict<'_>) -> Result<Value, Allo
     put(&mut members, alloc, "digest_agrees", digest_agrees)?;
     let hash = Value::try_from_str(alloc, bank_name(received.hash))?;
     put(&mut members, alloc, "hash", hash)?;
-    let leads_to = digest_json(alloc, &verdict.digest)?;
+    let leads_to = match &verdict.digest {
+        Ok(digest) => hex_json(alloc, digest.as_bytes())?,
+        Err(_) => Value::Null,
+    };
     put(&mut members, alloc, "leads_to", leads_to)?;
     let nonce = hex_json(alloc, quote.extra_data())?;
     put(&mut members, alloc, "nonce", nonce)?;
@@ -187,18 +187,6 @@ fn clock_json(alloc: Global, clock_info: ClockInfo) -> Result<Value, AllocError>
         "restart_count": restart_count,
         "safe": safe
     })
-}
-
-/// Returns the digest to which a log leads, in hex; `null` if it leads to none.
-#[tactic(auto, unfolding(crate::specs::json::Quote::digest_json))]
-fn digest_json(alloc: Global, digest: &Result<PcrValue, NoQuoteDigest>) -> Result<Value, AllocError>
-    ensures { IfOk result
-        (IsValueOf (digest_json (result_map_both value_of (λ why. why) digest.now))) }
-{
-    match digest {
-        Ok(digest) => hex_json(alloc, digest.as_bytes()),
-        Err(_) => Ok(Value::Null),
-    }
 }
 
 /// Returns whether a quote has the nonce that was asked for; `null` if any will do.

@@ -4,7 +4,7 @@ ghost use Rattle.uefi_base.specs.Appending.{AppendsText};
 ghost use Rattle.pcr_replay.specs.Views.{outcome_of};
 ghost use Rattle.pcr_replay.specs.BankReplays.{bank_outcomes_of};
 ghost use Rattle.audit_text.specs.private.JsonValues.{AppendsValues, AreValuesOf, IsValueOf};
-ghost use Rattle.audit_text.specs.json.Verdict.{failed_json, if_disagreeing, led_json, pcr_json, undetermined_by, verdict_json, verdict_line};
+ghost use Rattle.audit_text.specs.json.Verdict.{failed_json, if_disagreeing, pcr_json, undetermined_by, verdict_json, verdict_line};
 ghost use Rattle.uefi_audits.specs.verify.Compared.{judged_pcrs_of};
 
 use crate::json::coverage::{covered_json, not_covered_json, push_unless};
@@ -145,7 +145,10 @@ fn pcr_json(
         (pcr_json held.now (option_map (λ outcome. outcome_of outcome.now) outcome.entry))) }
 {
     let held_value = hex_json(alloc, held.value.as_bytes())?;
-    let leads_to = led_json(alloc, outcome)?;
+    let leads_to = match outcome {
+        Some(Ok(value)) => hex_json(alloc, value.as_bytes())?,
+        _ => Value::Null,
+    };
     let undetermined = undetermined_by(alloc, outcome)?;
     json!(in alloc; {
         "bank": bank_name(held.bank),
@@ -154,21 +157,6 @@ fn pcr_json(
         "pcr": held.pcr,
         "undetermined": undetermined
     })
-}
-
-/// Returns what the log leads to in a PCR, in hex; `null` if it leads to no value.
-#[tactic(auto, unfolding(crate::specs::json::Verdict::led_json))]
-fn led_json(
-    alloc: Global,
-    outcome: Option<&Result<PcrValue, Undetermined>>,
-) -> Result<Value, AllocError>
-    ensures { IfOk result
-        (IsValueOf (led_json (option_map (λ outcome. outcome_of outcome.now) outcome.entry))) }
-{
-    match outcome {
-        Some(Ok(value)) => hex_json(alloc, value.as_bytes()),
-        _ => Ok(Value::Null),
-    }
 }
 
 /// Returns the event by which a PCR is undetermined; `null` if it isn't.
