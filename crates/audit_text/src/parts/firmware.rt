@@ -1,10 +1,9 @@
 ghost use Rattle.std.specs.Prelude.{◌≡◌, map, IfOk};
 ghost use Rattle.tcg_event.specs.Views.{blob_of, described_of, tagged_of};
 ghost use Rattle.uefi_tcg.specs.v2.Views.{header_of, table_of};
-ghost use Rattle.audit_text.specs.parts.Contents.{blob_parts, described_parts, header_parts, size_parts, tag_parts, tagged_events_parts, tagged_parts};
+ghost use Rattle.audit_text.specs.parts.Contents.{blob_parts, described_parts, header_parts, size_parts, tagged_events_parts, tagged_parts};
 ghost use Rattle.audit_text.specs.parts.Part.{object};
 ghost use Rattle.audit_text.specs.private.PartViews.{AreParts, value_of};
-ghost use Rattle.audit_text.specs.words.Tags.{tag_name};
 
 use crate::parts::part::{Part, PartValue, PartsResult, joined};
 use crate::parts::texts::{algorithm_value, event_value};
@@ -133,7 +132,17 @@ pub(crate) fn tagged_events_parts<'a>(alloc: Global, tagged: &TaggedData<'a>) ->
 fn tagged_parts<'a>(alloc: Global, event: &TaggedEvent<'a>) -> PartsResult<'a>
     ensures { AreParts result (tagged_parts (tagged_of event.now)) }
 {
-    let tag = tag_parts(alloc, event.id)?;
+    let number = PartValue::Hexadecimal(u64::from(event.id));
+    let tag = match tag_name(event.id) {
+        Some(name) => {
+            let name = PartValue::Plain(String::from_str(alloc, name)?);
+            vec![in alloc;
+                Part::new("name", "  tagged event ", name),
+                Part::new("id", " ", number),
+            ]?
+        }
+        None => vec![in alloc; Part::new("id", "  tagged event ", number)]?,
+    };
     let text = event_value(alloc, &EventText::read(event.data))?;
     let others = vec![in alloc;
         Part::in_json("data", PartValue::Bytes(event.data)),
@@ -141,21 +150,4 @@ fn tagged_parts<'a>(alloc: Global, event: &TaggedEvent<'a>) -> PartsResult<'a>
         Part::words("\n"),
     ]?;
     joined(tag, others)
-}
-
-/// Returns the parts of a tag: its name, if it has one, and its number.
-fn tag_parts<'a>(alloc: Global, id: u32) -> PartsResult<'a>
-    ensures { AreParts result (tag_parts (tag_name id) id) }
-{
-    let number = PartValue::Hexadecimal(u64::from(id));
-    match tag_name(id) {
-        Some(name) => {
-            let name = PartValue::Plain(String::from_str(alloc, name)?);
-            Ok(vec![in alloc;
-                Part::new("name", "  tagged event ", name),
-                Part::new("id", " ", number),
-            ]?)
-        }
-        None => Ok(vec![in alloc; Part::new("id", "  tagged event ", number)]?),
-    }
 }
