@@ -35,7 +35,7 @@ digest_json (Ok digest) = string (encode_lower digest)
 digest_json (Err why) = null
 
 -- Whether the nonce is the one that was asked for; `null` if any will do.
-unfoldable pub nonce_agrees_json : Option (List ℕ) → Bool → Json
+abbrev pub nonce_agrees_json : Option (List ℕ) → Bool → Json
 nonce_agrees_json None agrees = null
 nonce_agrees_json (Some asked) agrees = boolean agrees
 

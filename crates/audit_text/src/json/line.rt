@@ -30,11 +30,18 @@ pub(crate) fn push_line(text: &mut String, alloc: Global, value: &Value) -> Resu
     writeln!(text, "{line}")
 }
 
+/// Returns whether a character is escaped.
+fn is_escaped(character: char) -> bool
+    ensures { result ≡ is_control character }
+{
+    is_control(character)
+}
+
 /// Returns whether a text has a control character.
 fn has_control(text: &str) -> bool
     ensures { result ≡ list_any is_control (chars text.now) }
 {
-    text.chars().any(|character| is_control(character))
+    text.chars().any(is_escaped)
 }
 
 /// Returns a text of JSON, in which controls are in strings alone, with these escaped.

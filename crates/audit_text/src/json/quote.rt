@@ -3,10 +3,10 @@ ghost use Rattle.uefi_base.specs.Appending.{AppendsText};
 ghost use Rattle.tpm_quote.specs.PcrSelection.{selected_pcrs};
 ghost use Rattle.tpm_quote.specs.Views.{clock_info_of, quote_of, selection_of};
 ghost use Rattle.uefi_audits.specs.verify.Compared.{judged_quote_of};
-ghost use Rattle.uefi_audits.specs.verify.Quote.{has_its_nonce, quote_judgement_of, received_of};
+ghost use Rattle.uefi_audits.specs.verify.Quote.{quote_judgement_of};
 ghost use Rattle.audit_text.specs.json.Coverage.{pcr_number};
 ghost use Rattle.audit_text.specs.private.JsonValues.{AreValuesOf, IsValueOf};
-ghost use Rattle.audit_text.specs.json.Quote.{clock_json, failed_json, nonce_agrees_json, quote_json, quote_line, quote_object, selection_json};
+ghost use Rattle.audit_text.specs.json.Quote.{clock_json, failed_json, quote_json, quote_line, quote_object, selection_json};
 
 use crate::json::coverage::{covered_json, not_covered_json, push_unless};
 use crate::json::digests::algorithm_json;
@@ -16,7 +16,7 @@ use serde_json::{Map, Value, json, put};
 use std::alloc::{AllocError, Global};
 use tpm_quote::{ClockInfo, PcrSelection, Quote};
 use uefi_audits::naming::bank_name;
-use uefi_audits::verify::{ComparedQuote, QuoteVerdict, ReceivedQuote};
+use uefi_audits::verify::{ComparedQuote, QuoteVerdict};
 
 /// Appends whether a log agrees with a quote as one line of JSON: an object, and a line break.
 ///
@@ -127,12 +127,11 @@ fn quote_object(alloc: Global, verdict: &QuoteVerdict<'_>) -> Result<Value, Allo
     put(&mut members, alloc, "leads_to", leads_to)?;
     let nonce = hex_json(alloc, quote.extra_data())?;
     put(&mut members, alloc, "nonce", nonce)?;
-    put(
-        &mut members,
-        alloc,
-        "nonce_agrees",
-        nonce_agrees_json(received),
-    )?;
+    let nonce_agrees = match received.nonce {
+        Some(_) => Value::Bool(received.has_its_nonce()),
+        None => Value::Null,
+    };
+    put(&mut members, alloc, "nonce_agrees", nonce_agrees)?;
     Ok(Value::Object(members))
 }
 
@@ -187,16 +186,4 @@ fn clock_json(alloc: Global, clock_info: ClockInfo) -> Result<Value, AllocError>
         "restart_count": restart_count,
         "safe": safe
     })
-}
-
-/// Returns whether a quote has the nonce that was asked for; `null` if any will do.
-#[tactic(auto, unfolding(crate::specs::json::Quote::nonce_agrees_json))]
-fn nonce_agrees_json(received: &ReceivedQuote<'_>) -> Value
-    ensures { IsValueOf (nonce_agrees_json (received_of received.now).nonce
-        (has_its_nonce (received_of received.now))) result }
-{
-    match received.nonce {
-        Some(_) => Value::Bool(received.has_its_nonce()),
-        None => Value::Null,
-    }
 }

@@ -9,7 +9,6 @@ use crate::audit_text::text::push_check;
 use crate::support::alloc::AllocError;
 use uefi_formats::pcr::{Quote, QuoteError};
 use crate::uefi_audits::check::{CheckResult, check_entries};
-use crate::uefi_audits::out_of_place::Remarks;
 use crate::uefi_audits::verify::{NamedPcr, covered_pcrs};
 
 /// Returns what is printed of the events of a log: those whose digests aren't the hash of what their
@@ -79,15 +78,7 @@ fn found_text(
 /// Returns the status of what was found of a log: whether no event is a mismatch, and no remark counts
 /// against the log.
 fn found_status(found: &CheckResult<'_>) -> Status {
-    match found.mismatches.as_slice() {
-        [] => remarks_status(&found.remarks),
-        _ => Status::Differs,
-    }
-}
-
-/// Returns the status of the remarks on a log: whether they count against it.
-fn remarks_status(remarks: &Remarks<'_>) -> Status {
-    if remarks.are_faults() {
+    if !found.mismatches.is_empty() || found.remarks.are_faults() {
         return Status::Differs;
     }
     Status::Well

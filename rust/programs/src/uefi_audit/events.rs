@@ -36,20 +36,11 @@ fn events_text(
     if !is_read {
         return Ok(text);
     }
-    push_formatted(&mut text, file, format)?;
-    Ok(text)
-}
-
-/// Appends the events of a log in a format.
-fn push_formatted(
-    text: &mut String,
-    file: &LogFile<'_>,
-    format: Format,
-) -> Result<(), AllocError> {
     match format {
-        Format::Json => push_lines(text, file),
-        Format::Text => push_blocks(text, file),
+        Format::Json => push_lines(&mut text, file)?,
+        Format::Text => push_blocks(&mut text, file)?,
     }
+    Ok(text)
 }
 
 /// Appends the line of each event.

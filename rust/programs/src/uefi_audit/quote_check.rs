@@ -118,30 +118,20 @@ fn reason_of(why: NoQuoteDigest) -> NotJudged {
     }
 }
 
-/// Returns what is printed of a verdict after these messages, unless the quote covers no PCR.
+/// Returns what is printed of a verdict after these messages, unless the quote covers no PCR, or not
+/// those that are asked for.
 fn covered_report(
     messages: String,
     file: &LogFile<'_>,
     check: &QuoteCheck<'_>,
     compared: &ComparedQuote<'_>,
 ) -> Result<Report, AllocError> {
-    if !compared.coverage.covered.is_empty() {
-        return asked_report(messages, file, check, compared);
-    }
     let mut messages = messages;
-    push_no_pcr(&mut messages, check.file)?;
-    let format = check.registers.format;
-    Report::unjudged_as(messages, file.name, format, NotJudged::NoPcr)
-}
-
-/// Returns what is printed of a verdict after these messages, unless the quote doesn't cover PCRs that are
-/// asked for.
-fn asked_report(
-    messages: String,
-    file: &LogFile<'_>,
-    check: &QuoteCheck<'_>,
-    compared: &ComparedQuote<'_>,
-) -> Result<Report, AllocError> {
+    if compared.coverage.covered.is_empty() {
+        push_no_pcr(&mut messages, check.file)?;
+        let format = check.registers.format;
+        return Report::unjudged_as(messages, file.name, format, NotJudged::NoPcr);
+    }
     if !compared.coverage.missing.is_empty() {
         return lacking_quote(messages, file.name, check, compared);
     }
@@ -162,8 +152,13 @@ fn lacking_quote(
         check.file,
         compared.coverage.missing.as_slice(),
     )?;
+    let mut text = String::new();
+    match check.registers.format {
+        Format::Text => {}
+        Format::Json => push_quote_json(&mut text, name, compared)?,
+    }
     Ok(Report {
-        text: lacking_text(name, compared, check.registers.format)?,
+        text,
         messages,
         status: Status::Unjudged,
     })
@@ -211,20 +206,6 @@ fn quote_text(
     Ok(text)
 }
 
-/// Returns what is printed of a quote that doesn't cover PCRs that are asked for: its line of JSON.
-fn lacking_text(
-    name: &str,
-    compared: &ComparedQuote<'_>,
-    format: Format,
-) -> Result<String, AllocError> {
-    let mut text = String::new();
-    match format {
-        Format::Text => {}
-        Format::Json => push_quote_json(&mut text, name, compared)?,
-    }
-    Ok(text)
-}
-
 /// Returns the status of a verdict on a quote: it differs if its digest or its nonce does, or one of
 /// the events without effect should have extended a PCR that no TPM has.
 fn quote_status(compared: &ComparedQuote<'_>, ignored: &[IgnoredEvent]) -> Status {
@@ -243,19 +224,12 @@ fn with_registers(
     if check.registers.pcrs.is_empty() {
         return Ok(quote);
     }
-    quote.and(&registers_report(file, &check.registers)?)
+    let compared = compare(file, &check.registers)?;
+    quote.and(&registers_verdict(file, &check.registers, &compared)?)
 }
 
-/// Returns what is printed of PCRs that are compared beside a quote.
-fn registers_report(
-    file: &LogFile<'_>,
-    stated: &StatedPcrs<'_>,
-) -> Result<Report, AllocError> {
-    let compared = compare(file, stated)?;
-    registers_verdict(file, stated, &compared)
-}
-
-/// Returns what is printed of the verdict on them, unless some that are asked for are missing.
+/// Returns what is printed of the verdict on PCRs that are compared beside a quote, unless some that
+/// are asked for are missing: nothing if they agree, since the verdict is the quote's.
 fn registers_verdict(
     file: &LogFile<'_>,
     stated: &StatedPcrs<'_>,
@@ -265,22 +239,14 @@ fn registers_verdict(
     if !compared.coverage.missing.is_empty() {
         return lacking_report(messages, file.name, stated, compared);
     }
+    let text = if compared.agrees() {
+        String::new()
+    } else {
+        verdict_text(file.name, compared, stated.format)?
+    };
     Ok(Report {
-        text: differing_text(file.name, compared, stated.format)?,
+        text,
         messages,
         status: status_of(&compared.verdict, &[]),
     })
-}
-
-/// Returns the verdict on PCRs that are compared beside a quote in a format; nothing if they agree, since
-/// the verdict is the quote's.
-fn differing_text(
-    name: &str,
-    compared: &ComparedPcrs,
-    format: Format,
-) -> Result<String, AllocError> {
-    if compared.agrees() {
-        return Ok(String::new());
-    }
-    verdict_text(name, compared, format)
 }

@@ -13,7 +13,6 @@ use crate::shown::ShownName;
 use crate::support::alloc::AllocError;
 use crate::uefi_audits::facts::LogFacts;
 use crate::uefi_audits::ignored::IgnoredEvent;
-use crate::uefi_audits::known_start::KnownStart;
 use crate::uefi_audits::log_replay::LogReplay;
 
 /// What `replay` asks for.
@@ -106,7 +105,10 @@ fn replay_text(
 ) -> Result<String, AllocError> {
     let mut text = String::new();
     match asked.format {
-        Format::Text => push_text(&mut text, name, asked.is_one_of_many, replay)?,
+        Format::Text => {
+            push_name(&mut text, name, asked.is_one_of_many)?;
+            push_banks(&mut text, replay.banks.as_slice())?;
+        }
         Format::Json => {
             let banks = Some(replay.banks.as_slice());
             push_replay_json(&mut text, name, facts, banks)?;
@@ -124,35 +126,13 @@ fn push_messages(
     replay: &LogReplay,
     is_one_of_many: bool,
 ) -> Result<(), AllocError> {
-    push_assumed(messages, name, &facts.start, is_one_of_many)?;
+    if !is_one_of_many {
+        push_start(messages, name, &facts.start)?;
+    }
     push_inactive(messages, name, replay.inactive.as_slice())?;
     push_unsupported(messages, name, replay.unsupported.as_slice())?;
     push_undetermined(messages, name, replay.banks.as_slice())?;
     push_ignored(messages, name, replay.ignored.as_slice())
-}
-
-/// Appends the locality that is assumed, unless the log is one of many: then it is said once of all.
-fn push_assumed(
-    messages: &mut String,
-    name: &str,
-    start: &KnownStart,
-    is_one_of_many: bool,
-) -> Result<(), AllocError> {
-    if is_one_of_many {
-        return Ok(());
-    }
-    push_start(messages, name, start)
-}
-
-/// Appends PCRs as text, after the log's name if it is one of many.
-fn push_text(
-    text: &mut String,
-    name: &str,
-    is_one_of_many: bool,
-    replay: &LogReplay,
-) -> Result<(), AllocError> {
-    push_name(text, name, is_one_of_many)?;
-    push_banks(text, replay.banks.as_slice())
 }
 
 /// Appends the line with a log's name, if it is one of many.

@@ -53,7 +53,7 @@ pub(crate) fn verify_report(
 /// # Errors
 ///
 /// [`AllocError`] if an allocation fails.
-pub(crate) fn verification_report(
+fn verification_report(
     file: &LogFile<'_>,
     reading: Reading,
     stated: &StatedPcrs<'_>,
@@ -71,7 +71,10 @@ fn judged_report(
 ) -> Result<Report, AllocError> {
     let (name, format) = (file.name, stated.format);
     match judgement {
-        Judgement::Accepted => stated_report(messages, file, stated),
+        Judgement::Accepted => {
+            let compared = compare(file, stated)?;
+            compared_report(messages, file, stated, &compared)
+        }
         Judgement::NothingMeasured => {
             Report::unjudged_as(messages, name, format, NotJudged::NothingMeasured)
         }
@@ -79,16 +82,6 @@ fn judged_report(
             Report::unjudged_as(messages, name, format, NotJudged::LeftOver)
         }
     }
-}
-
-/// Returns what is printed after these messages of a log that can be judged.
-fn stated_report(
-    messages: String,
-    file: &LogFile<'_>,
-    stated: &StatedPcrs<'_>,
-) -> Result<Report, AllocError> {
-    let compared = compare(file, stated)?;
-    compared_report(messages, file, stated, &compared)
 }
 
 /// Returns the verdict on the PCRs that are selected.
@@ -134,8 +127,13 @@ pub(crate) fn lacking_report(
         stated.file,
         compared.coverage.missing.as_slice(),
     )?;
+    let mut text = String::new();
+    match stated.format {
+        Format::Text => {}
+        Format::Json => push_verdict_json(&mut text, name, compared)?,
+    }
     Ok(Report {
-        text: lacking_text(name, compared, stated.format)?,
+        text,
         messages,
         status: Status::Unjudged,
     })
@@ -150,8 +148,10 @@ fn verdict_report(
 ) -> Result<Report, AllocError> {
     let mut messages = messages;
     let ignored = ignored_events(file.read.entries())?;
+    let held = held_banks(compared.held.as_slice())?;
+    let inactive = inactive_banks(file.read.entries(), held.as_slice())?;
     push_start(&mut messages, file.name, &compared.verdict.start)?;
-    push_inactive_banks(&mut messages, file, compared.held.as_slice())?;
+    push_inactive(&mut messages, file.name, inactive.as_slice())?;
     push_ignored(&mut messages, file.name, ignored.as_slice())?;
     push_uncompared(
         &mut messages,
@@ -165,17 +165,6 @@ fn verdict_report(
     })
 }
 
-/// Appends the held banks that no event has a digest of.
-fn push_inactive_banks(
-    messages: &mut String,
-    file: &LogFile<'_>,
-    held: &[HeldPcr],
-) -> Result<(), AllocError> {
-    let banks = held_banks(held)?;
-    let inactive = inactive_banks(file.read.entries(), banks.as_slice())?;
-    push_inactive(messages, file.name, inactive.as_slice())
-}
-
 /// Returns a verdict in a format.
 pub(crate) fn verdict_text(
     name: &str,
@@ -186,21 +175,6 @@ pub(crate) fn verdict_text(
     let mut text = String::new();
     match format {
         Format::Text => push_verdict(&mut text, name, held, verdict)?,
-        Format::Json => push_verdict_json(&mut text, name, compared)?,
-    }
-    Ok(text)
-}
-
-/// Returns what is printed of a verdict on PCRs of which some that are asked for are missing: its line of
-/// JSON.
-fn lacking_text(
-    name: &str,
-    compared: &ComparedPcrs,
-    format: Format,
-) -> Result<String, AllocError> {
-    let mut text = String::new();
-    match format {
-        Format::Text => {}
         Format::Json => push_verdict_json(&mut text, name, compared)?,
     }
     Ok(text)

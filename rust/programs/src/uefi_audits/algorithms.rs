@@ -15,15 +15,10 @@ use uefi_formats::proto::tcg::v2::AlgorithmDigestSizes;
 ///
 /// [`AllocError`] if an allocation fails.
 pub fn algorithms_in(read: &ReadLog<'_>) -> Result<Vec<u16>, AllocError> {
-    match read.header() {
-        Some(header) => in_order(&header.algorithm_digest_sizes()),
-        None => Ok(Vec::new()),
-    }
-}
-
-/// Returns the algorithms in a table, each once, in ascending order.
-fn in_order(table: &AlgorithmDigestSizes<'_>) -> Result<Vec<u16>, AllocError> {
-    let mut algorithms = each_algorithm(table)?;
+    let Some(header) = read.header() else {
+        return Ok(Vec::new());
+    };
+    let mut algorithms = each_algorithm(&header.algorithm_digest_sizes())?;
     algorithms.fallible_sort()?;
     algorithms.dedup();
     Ok(algorithms)

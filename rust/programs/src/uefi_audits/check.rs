@@ -62,8 +62,7 @@ fn first_match(
     forms: &[Form],
 ) -> Result<Option<Form>, AllocError> {
     for form in forms {
-        let found = matches_by(event, *form)?;
-        if found {
+        if matches_by(event, *form)? {
             return Ok(Some(*form));
         }
     }
@@ -72,55 +71,34 @@ fn first_match(
 
 /// Returns whether the data of an event may describe or name what was measured.
 fn may_measure_other(event: &LogEvent<'_>) -> bool {
-    may_describe(event.event_type()) || may_name_file(event)
-}
-
-/// Returns whether an event has the type of a text, and the text is no command.
-fn may_name_file(event: &LogEvent<'_>) -> bool {
-    event.event_type() == EventType::IPL && command_in(event.event_data()).is_none()
+    may_describe(event.event_type())
+        || (event.event_type() == EventType::IPL && command_in(event.event_data()).is_none())
 }
 
 /// Returns whether an event's digests are the hash of what its data measure in a form.
 fn matches_by(event: &LogEvent<'_>, form: Form) -> Result<bool, AllocError> {
+    let data = event.event_data();
     match form {
-        Form::Data => Ok(are_hashes(event, event.event_data(), &[])),
-        Form::VariableValue => Ok(matches_value(event)),
-        Form::WithoutNul => Ok(matches_without_nul(event)),
-        Form::WithNul => Ok(are_hashes(event, event.event_data(), &[0])),
-        Form::Command => Ok(matches_command(event)),
-        Form::Narrowed => matches_narrowed(event),
-    }
-}
-
-/// Returns whether an event matches by the value of the variable that its data are.
-fn matches_value(event: &LogEvent<'_>) -> bool {
-    match VariableData::read(event.event_data()) {
-        Some(variable) => are_hashes(event, variable.data, &[]),
-        None => false,
-    }
-}
-
-/// Returns whether an event matches by its data without their closing NUL.
-fn matches_without_nul(event: &LogEvent<'_>) -> bool {
-    match without_nul(event.event_data()) {
-        Some(text) => are_hashes(event, text, &[]),
-        None => false,
-    }
-}
-
-/// Returns whether an event matches by the command in its data.
-fn matches_command(event: &LogEvent<'_>) -> bool {
-    match command_in(event.event_data()) {
-        Some(command) => are_hashes(event, command, &[]),
-        None => false,
-    }
-}
-
-/// Returns whether an event matches by the bytes whose units, of UTF-16, its data are.
-fn matches_narrowed(event: &LogEvent<'_>) -> Result<bool, AllocError> {
-    match narrowed(event.event_data())? {
-        Some(bytes) => Ok(are_hashes(event, bytes.as_slice(), &[])),
-        None => Ok(false),
+        Form::Data => Ok(are_hashes(event, data, &[])),
+        Form::VariableValue => {
+            match VariableData::read(data) {
+                Some(variable) => Ok(are_hashes(event, variable.data, &[])),
+                None => Ok(false),
+            }
+        }
+        Form::WithoutNul => match without_nul(data) {
+            Some(text) => Ok(are_hashes(event, text, &[])),
+            None => Ok(false),
+        },
+        Form::WithNul => Ok(are_hashes(event, data, &[0])),
+        Form::Command => match command_in(data) {
+            Some(command) => Ok(are_hashes(event, command, &[])),
+            None => Ok(false),
+        },
+        Form::Narrowed => match narrowed(data)? {
+            Some(bytes) => Ok(are_hashes(event, bytes.as_slice(), &[])),
+            None => Ok(false),
+        },
     }
 }
 
@@ -138,12 +116,6 @@ fn has_digests(event: &LogEvent<'_>) -> bool {
 /// Returns whether each digest that an event has of a bank that can be replayed is the hash of
 /// these two parts.
 fn all_agree(event: &LogEvent<'_>, first: &[u8], second: &[u8]) -> bool {
-    Bank::ALL
-        .iter()
-        .all(|bank| agrees(event, *bank, first, second))
-}
-
-/// Returns whether the digest of a bank is the hash of these two parts, if the event has one.
-fn agrees(event: &LogEvent<'_>, bank: Bank, first: &[u8], second: &[u8]) -> bool {
-    !has_digest(bank, event) || is_hash_of(bank, event, first, second)
+    Bank::ALL.iter().all(|bank| !has_digest(*bank, event)
+        || is_hash_of(*bank, event, first, second))
 }

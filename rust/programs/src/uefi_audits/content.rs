@@ -67,9 +67,11 @@ pub enum EventContent<'a> {
 pub fn read_content<'a>(event: &LogEvent<'a>, uintn_size: UintnSize) -> EventContent<'a> {
     let bytes = event.event_data();
     match event.event_type() {
-        EventType::POST_CODE => post_code_content(bytes),
+        EventType::POST_CODE if are_printed(bytes) => text_content(bytes),
+        EventType::POST_CODE => blob_content(bytes),
         EventType::NO_ACTION => no_action_content(bytes),
-        EventType::SEPARATOR => separator_content(bytes),
+        EventType::SEPARATOR if bytes.len() == 4 => EventContent::Separator(u32_at(bytes, 0)),
+        EventType::SEPARATOR => EventContent::Unread,
         EventType::ACTION
         | EventType::OMIT_BOOT_DEVICE_EVENTS
         | EventType::EFI_ACTION
@@ -89,7 +91,8 @@ pub fn read_content<'a>(event: &LogEvent<'a>, uintn_size: UintnSize) -> EventCon
         EventType::EFI_GPT_EVENT | EventType::EFI_GPT_EVENT2 => gpt_content(bytes, uintn_size),
         EventType::EFI_PLATFORM_FIRMWARE_BLOB => blob_content(bytes),
         EventType::EFI_VARIABLE_AUTHORITY => authority_content(bytes),
-        _ => label_content(bytes),
+        _ if bytes.is_empty() => EventContent::Unread,
+        _ => text_content(bytes),
     }
 }
 
@@ -112,14 +115,6 @@ fn header_in(bytes: &[u8]) -> Option<EventLogHeader<'_>> {
     EventLogHeader::read(bytes)
 }
 
-/// Returns the number of a separator.
-fn separator_content(bytes: &[u8]) -> EventContent<'_> {
-    if bytes.len() != 4 {
-        return EventContent::Unread;
-    }
-    EventContent::Separator(u32_at(bytes, 0))
-}
-
 /// Returns the text that data are, if each byte of them is a printed character or a space.
 fn text_content(bytes: &[u8]) -> EventContent<'_> {
     let Ok(text) = core::str::from_utf8(bytes) else {
@@ -130,22 +125,6 @@ fn text_content(bytes: &[u8]) -> EventContent<'_> {
     } else {
         EventContent::Unread
     }
-}
-
-/// Returns the text that data of another type are, such as `ACPI DATA`, unless there are none.
-fn label_content(bytes: &[u8]) -> EventContent<'_> {
-    if bytes.is_empty() {
-        return EventContent::Unread;
-    }
-    text_content(bytes)
-}
-
-/// Returns the text that data are, or the blob.
-fn post_code_content(bytes: &[u8]) -> EventContent<'_> {
-    if are_printed(bytes) {
-        return text_content(bytes);
-    }
-    blob_content(bytes)
 }
 
 /// Returns whether each byte is a character of ASCII that prints, or a space.

@@ -10,6 +10,7 @@
 pub use self::algorithms::compared_algorithms;
 pub use self::compared::{ComparedParts, is_same_event};
 pub use self::difference::{EventChange, PcrDifference, differences};
+pub use self::events::{EventDifference, event_differences};
 pub use self::names::{EventName, command_name, has_uncovered_name};
 pub use self::pcr::{ABOVE, NumberedEntry, numbered_entries};
 
@@ -19,6 +20,7 @@ mod compared;
 mod counterparts;
 mod difference;
 mod event_key;
+mod events;
 mod moved;
 mod names;
 mod pcr;

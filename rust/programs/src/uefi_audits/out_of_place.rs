@@ -57,11 +57,11 @@ impl Remarks<'_> {
     }
 }
 
-/// Returns the remarks on the places of these events.
+/// Returns the remarks on the places of these events; none if the log is of confidential computing.
 pub(crate) fn remarks_on<'a>(
     all: &[CheckedEntry<'a>],
 ) -> Result<Remarks<'a>, AllocError> {
-    if is_confidential(all) {
+    if has_exit(all, 2) && !has_pcr_above_registers(all) {
         return Ok(Remarks {
             events: Vec::new(),
             unseparated: Vec::new(),
@@ -77,29 +77,15 @@ pub(crate) fn remarks_on<'a>(
     })
 }
 
-/// Returns whether a log is of confidential computing, whose registers aren't PCRs.
-fn is_confidential(all: &[CheckedEntry<'_>]) -> bool {
-    has_exit(all, 2) && !has_pcr_above_registers(all)
-}
-
 /// Returns whether an event extends a PCR whose number no register of confidential computing has.
 fn has_pcr_above_registers(all: &[CheckedEntry<'_>]) -> bool {
-    all.iter().any(|it| is_above_registers(it))
-}
-
-/// Returns whether an event extends such a PCR.
-fn is_above_registers(it: &CheckedEntry<'_>) -> bool {
-    it.pcr() > LAST_REGISTER && !it.has_type(EventType::NO_ACTION)
+    all.iter().any(|it| it.pcr() > LAST_REGISTER && !it.has_type(EventType::NO_ACTION))
 }
 
 /// Returns whether an event of a PCR says that the operating system takes over.
 fn has_exit(all: &[CheckedEntry<'_>], pcr: u32) -> bool {
-    all.iter().any(|it| exits(pcr, it))
-}
-
-/// Returns whether an event of a PCR says so.
-fn exits(pcr: u32, it: &CheckedEntry<'_>) -> bool {
-    it.pcr() == pcr && is_exit(&it.entry.event)
+    all.iter()
+        .any(|it| it.pcr() == pcr && is_exit(&it.entry.event))
 }
 
 /// Returns whether an event's digest of some bank says so.
@@ -110,16 +96,6 @@ fn is_exit(event: &LogEvent<'_>) -> bool {
 /// Returns whether an event's digest of a bank is the hash of `Exit Boot Services Invocation`.
 fn is_exit_in(bank: Bank, event: &LogEvent<'_>) -> bool {
     is_hash_of(bank, event, b"Exit Boot Services Invocation", &[])
-}
-
-/// Returns whether a log is that of a BIOS: it has no event of UEFI.
-fn is_of_bios(all: &[CheckedEntry<'_>]) -> bool {
-    !has_type_of_uefi(all)
-}
-
-/// Returns whether an event has a type of UEFI.
-fn has_type_of_uefi(all: &[CheckedEntry<'_>]) -> bool {
-    all.iter().any(|it| it.entry.event.event_type().0 >= EventType::EFI_EVENT_BASE.0)
 }
 
 /// Returns the PCRs of firmware without a separator.
@@ -141,11 +117,15 @@ fn separates(pcr: u32, it: &CheckedEntry<'_>) -> bool {
     it.pcr() == pcr && it.has_type(EventType::SEPARATOR)
 }
 
-/// Returns the events of PCR 0 to 8 that are out of place.
+/// Returns the events of PCR 0 to 8 that are out of place. A log without an event of UEFI is that of a
+/// BIOS.
 fn misplaced<'a>(
     all: &[CheckedEntry<'a>],
 ) -> Result<Vec<OutOfPlace<'a>>, AllocError> {
-    let is_of_bios = is_of_bios(all);
+    let first_of_uefi = EventType::EFI_EVENT_BASE.0;
+    let is_of_bios = !all
+        .iter()
+        .any(|it| it.entry.event.event_type().0 >= first_of_uefi);
     let mut found = Vec::new();
     for pcr in 0..JUDGED_PCRS {
         push_misplaced(&mut found, all, is_of_bios, pcr)?;

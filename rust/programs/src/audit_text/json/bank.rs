@@ -10,48 +10,29 @@ use crate::uefi_audits::naming::bank_name;
 
 /// Returns the banks of a log; `null` if it is refused.
 pub(crate) fn banks_json(banks: Option<&[BankPcrs]>) -> Result<Value, AllocError> {
-    match banks {
-        Some(banks) => Ok(Value::Array(each_bank(banks)?)),
-        None => Ok(Value::Null),
-    }
-}
-
-/// Returns each bank.
-fn each_bank(banks: &[BankPcrs]) -> Result<Vec<Value>, AllocError> {
+    let Some(banks) = banks else {
+        return Ok(Value::Null);
+    };
     let mut values = Vec::new();
     for bank in banks {
-        let value = bank_json(bank)?;
-        values.fallible_push(value)?;
+        values.fallible_push(bank_json(bank)?)?;
     }
-    Ok(values)
+    Ok(Value::Array(values))
 }
 
 /// Returns a bank: its name, its PCRs, and the events by which some are undetermined.
 fn bank_json(bank: &BankPcrs) -> Result<Value, AllocError> {
     let name = bank_name(bank.bank);
-    let outcomes = Value::Array(outcomes_json(&bank.pcrs)?);
+    let mut pcrs = Vec::new();
+    for outcome in bank.pcrs.outcomes() {
+        pcrs.fallible_push(match outcome {
+            Ok(value) => hex_json(value.as_bytes())?,
+            Err(_) => Value::Null,
+        })?;
+    }
+    let pcrs = Value::Array(pcrs);
     let undetermined = Value::Array(all_undetermined(&bank.pcrs)?);
-    json!({"algorithm": name, "pcrs": outcomes, "undetermined": undetermined})
-}
-
-/// Returns what each PCR holds.
-fn outcomes_json(pcrs: &Pcrs) -> Result<Vec<Value>, AllocError> {
-    let mut values = Vec::new();
-    for outcome in pcrs.outcomes() {
-        let value = outcome_json(outcome)?;
-        values.fallible_push(value)?;
-    }
-    Ok(values)
-}
-
-/// Returns a PCR's value in hex; `null` if it is undetermined.
-fn outcome_json(
-    outcome: &Result<PcrValue, Undetermined>,
-) -> Result<Value, AllocError> {
-    match outcome {
-        Ok(value) => hex_json(value.as_bytes()),
-        Err(_) => Ok(Value::Null),
-    }
+    json!({"algorithm": name, "pcrs": pcrs, "undetermined": undetermined})
 }
 
 /// Returns the events by which PCRs are undetermined, in the order of the PCRs.

@@ -61,19 +61,10 @@ fn push_mismatches(
     mismatches: &[Mismatch<'_>],
 ) -> Result<(), AllocError> {
     for mismatch in mismatches {
-        push_mismatch(text, log, mismatch)?;
+        let value = mismatch_json(log, mismatch)?;
+        push_line(text, &value)?;
     }
     Ok(())
-}
-
-/// Appends the line of an event that matches in none of its type's forms.
-fn push_mismatch(
-    text: &mut String,
-    log: &str,
-    mismatch: &Mismatch<'_>,
-) -> Result<(), AllocError> {
-    let value = mismatch_json(log, mismatch)?;
-    push_line(text, &value)
 }
 
 /// Returns an event that matches in none of its type's forms.
@@ -104,18 +95,11 @@ fn push_types(
 
 /// Returns the counts of the types.
 fn types_json(log: &str, types: &[TypeCounts]) -> Result<Value, AllocError> {
-    let checked = Value::Array(each_type(types)?);
-    json!({"checked": checked, "log": log})
-}
-
-/// Returns the counts of each type.
-fn each_type(types: &[TypeCounts]) -> Result<Vec<Value>, AllocError> {
-    let mut values = Vec::new();
+    let mut checked = Vec::new();
     for counts in types {
-        let value = counts_json(counts)?;
-        values.fallible_push(value)?;
+        checked.fallible_push(counts_json(counts)?)?;
     }
-    Ok(values)
+    json!({"checked": Value::Array(checked), "log": log})
 }
 
 /// Returns the counts of a type.

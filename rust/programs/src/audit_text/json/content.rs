@@ -37,15 +37,12 @@ fn value_json(value: &PartValue<'_>) -> Result<Value, AllocError> {
         PartValue::Text(text) | PartValue::Plain(text) => Value::try_from_str(text.as_str()),
         PartValue::Bytes(bytes) => Ok(Value::String(crate::hex::encode(bytes)?)),
         PartValue::Object(parts) => Ok(Value::Object(members(parts)?)),
-        PartValue::List(values) => Ok(Value::Array(items(values)?)),
+        PartValue::List(values) => {
+            let mut items = Vec::new();
+            for value in values {
+                items.fallible_push(value_json(value)?)?;
+            }
+            Ok(Value::Array(items))
+        }
     }
-}
-
-/// Returns the values of a list.
-fn items(values: &Vec<PartValue<'_>>) -> Result<Vec<Value>, AllocError> {
-    let mut items = Vec::new();
-    for value in values {
-        items.fallible_push(value_json(value)?)?;
-    }
-    Ok(items)
 }

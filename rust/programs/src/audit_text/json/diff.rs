@@ -8,7 +8,9 @@ use crate::audit_text::json::event::event_json;
 use crate::audit_text::json::line::push_line;
 use crate::serde_json::{Map, Value, json, put};
 use crate::support::alloc::AllocError;
-use crate::uefi_audits::diff::{EventChange, NumberedEntry, PcrDifference};
+use crate::uefi_audits::diff::{
+    EventChange, EventDifference, NumberedEntry, PcrDifference, event_differences,
+};
 use uefi_formats::proto::tcg::AlgorithmId;
 
 /// Appends how the events of two logs differ, as lines of JSON: an object that says what is
@@ -44,7 +46,8 @@ pub fn push_differences_json(
 ) -> Result<(), AllocError> {
     let compared = compared_json(logs)?;
     push_line(text, &compared)?;
-    push_pcrs(text, logs, differences)
+    let differences = event_differences(differences)?;
+    push_each(text, logs, differences.as_slice())
 }
 
 /// Returns what is compared.
@@ -63,114 +66,57 @@ fn each_algorithm(algorithms: &[AlgorithmId]) -> Result<Vec<Value>, AllocError> 
     Ok(values)
 }
 
-/// Appends how the events of PCRs differ.
-fn push_pcrs(
+/// Appends a line for each of these differences.
+fn push_each(
     text: &mut String,
     logs: &ComparedLogs<'_>,
-    differences: &[PcrDifference<'_>],
+    differences: &[EventDifference<'_, '_>],
 ) -> Result<(), AllocError> {
     for difference in differences {
-        push_pcr(text, logs, difference)?;
+        let value = event_difference_json(logs, difference)?;
+        push_line(text, &value)?;
     }
     Ok(())
 }
 
-/// Appends how the events of a PCR differ.
-fn push_pcr(
-    text: &mut String,
+/// Returns a difference in an event.
+fn event_difference_json(
     logs: &ComparedLogs<'_>,
-    difference: &PcrDifference<'_>,
-) -> Result<(), AllocError> {
-    push_changed(text, logs, difference.changed.as_slice())?;
-    push_only_old(text, logs, difference.only_old.as_slice())?;
-    push_only_new(text, logs, difference.only_new.as_slice())?;
-    push_moved(text, logs, &difference.moved)
-}
-
-/// Appends a line for each of these events that differ from their counterparts.
-fn push_changed(
-    text: &mut String,
-    logs: &ComparedLogs<'_>,
-    changed: &[EventChange<'_>],
-) -> Result<(), AllocError> {
-    for change in changed {
-        push_pair(text, logs, "changed", change)?;
-    }
-    Ok(())
-}
-
-/// Appends the line of the first event whose order is another; nothing if there is none.
-fn push_moved(
-    text: &mut String,
-    logs: &ComparedLogs<'_>,
-    moved: &Option<EventChange<'_>>,
-) -> Result<(), AllocError> {
-    match moved {
-        Some(change) => push_pair(text, logs, "moved", change),
-        None => Ok(()),
+    difference: &EventDifference<'_, '_>,
+) -> Result<Value, AllocError> {
+    match difference {
+        EventDifference::Changed(change) => pair_json(logs, "changed", change),
+        EventDifference::OnlyOld(found) => {
+            let old = entry_json(logs.old_name, found)?;
+            difference_json(
+                "only_old",
+                found.entry.event.pcr_index().0,
+                old,
+                Value::Null,
+            )
+        }
+        EventDifference::OnlyNew(found) => {
+            let new = entry_json(logs.new_name, found)?;
+            difference_json(
+                "only_new",
+                found.entry.event.pcr_index().0,
+                Value::Null,
+                new,
+            )
+        }
+        EventDifference::Moved(change) => pair_json(logs, "moved", change),
     }
 }
 
-/// Appends the line of an event and its counterpart.
-fn push_pair(
-    text: &mut String,
+/// Returns an event and its counterpart.
+fn pair_json(
     logs: &ComparedLogs<'_>,
     kind: &str,
     change: &EventChange<'_>,
-) -> Result<(), AllocError> {
-    let pcr = change.old.entry.event.pcr_index().0;
+) -> Result<Value, AllocError> {
     let old = entry_json(logs.old_name, &change.old)?;
     let new = entry_json(logs.new_name, &change.new)?;
-    let value = difference_json(kind, pcr, old, new)?;
-    push_line(text, &value)
-}
-
-/// Appends a line for each of these events of the old log, which the new one doesn't have.
-fn push_only_old(
-    text: &mut String,
-    logs: &ComparedLogs<'_>,
-    only: &[NumberedEntry<'_>],
-) -> Result<(), AllocError> {
-    for found in only {
-        push_old(text, logs, found)?;
-    }
-    Ok(())
-}
-
-/// Appends the line of an event of the old log, which the new one doesn't have.
-fn push_old(
-    text: &mut String,
-    logs: &ComparedLogs<'_>,
-    found: &NumberedEntry<'_>,
-) -> Result<(), AllocError> {
-    let pcr = found.entry.event.pcr_index().0;
-    let old = entry_json(logs.old_name, found)?;
-    let value = difference_json("only_old", pcr, old, Value::Null)?;
-    push_line(text, &value)
-}
-
-/// Appends a line for each of these events of the new log, which the old one doesn't have.
-fn push_only_new(
-    text: &mut String,
-    logs: &ComparedLogs<'_>,
-    only: &[NumberedEntry<'_>],
-) -> Result<(), AllocError> {
-    for found in only {
-        push_new(text, logs, found)?;
-    }
-    Ok(())
-}
-
-/// Appends the line of an event of the new log, which the old one doesn't have.
-fn push_new(
-    text: &mut String,
-    logs: &ComparedLogs<'_>,
-    found: &NumberedEntry<'_>,
-) -> Result<(), AllocError> {
-    let pcr = found.entry.event.pcr_index().0;
-    let new = entry_json(logs.new_name, found)?;
-    let value = difference_json("only_new", pcr, Value::Null, new)?;
-    push_line(text, &value)
+    difference_json(kind, change.old.entry.event.pcr_index().0, old, new)
 }
 
 /// Returns what differs: what kind of difference it is, its PCR, and what each log has.

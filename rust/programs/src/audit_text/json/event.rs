@@ -105,8 +105,7 @@ pub(crate) fn event_json(
 
 /// Returns bytes as a text of hex digits.
 pub(crate) fn hex_json(bytes: &[u8]) -> Result<Value, AllocError> {
-    let digits = crate::hex::encode(bytes)?;
-    Ok(Value::String(digits))
+    Ok(Value::String(crate::hex::encode(bytes)?))
 }
 
 /// Returns a type: its name, if it has one, and its number.

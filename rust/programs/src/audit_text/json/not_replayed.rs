@@ -15,7 +15,11 @@ pub(crate) fn not_replayed_json(
     banks: &[BankPcrs],
 ) -> Result<Value, AllocError> {
     let others = algorithms_without(algorithms, banks)?;
-    Ok(Value::Array(each_algorithm(others.as_slice())?))
+    let mut values = Vec::new();
+    for algorithm in &others {
+        values.fallible_push(algorithm_json(*algorithm)?)?;
+    }
+    Ok(Value::Array(values))
 }
 
 /// Returns those of these algorithms whose banks aren't among these.
@@ -35,16 +39,6 @@ fn is_replayed(banks: &[BankPcrs], algorithm: u16) -> bool {
     banks
         .iter()
         .any(|found| found.bank.algorithm().0 == algorithm)
-}
-
-/// Returns each algorithm.
-fn each_algorithm(algorithms: &[u16]) -> Result<Vec<Value>, AllocError> {
-    let mut values = Vec::new();
-    for algorithm in algorithms {
-        let value = algorithm_json(*algorithm)?;
-        values.fallible_push(value)?;
-    }
-    Ok(values)
 }
 
 /// Returns an algorithm: the name of its bank, or its number in hex if that bank can't be replayed.

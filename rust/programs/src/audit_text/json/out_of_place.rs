@@ -15,30 +15,11 @@ pub(super) fn push_remarks(
     log: &str,
     remarks: &Remarks<'_>,
 ) -> Result<(), AllocError> {
-    push_events(text, log, remarks.events.as_slice())?;
-    push_unseparated(text, log, remarks.unseparated.as_slice())
-}
-
-/// Appends a line for each event that is out of place.
-fn push_events(
-    text: &mut String,
-    log: &str,
-    events: &[OutOfPlace<'_>],
-) -> Result<(), AllocError> {
-    for event in events {
-        push_event(text, log, event)?;
+    for event in &remarks.events {
+        let value = misplaced_json(log, event)?;
+        push_line(text, &value)?;
     }
-    Ok(())
-}
-
-/// Appends the line of an event that is out of place.
-fn push_event(
-    text: &mut String,
-    log: &str,
-    found: &OutOfPlace<'_>,
-) -> Result<(), AllocError> {
-    let value = misplaced_json(log, found)?;
-    push_line(text, &value)
+    push_unseparated(text, log, remarks.unseparated.as_slice())
 }
 
 /// Returns an event that is out of place.
@@ -65,15 +46,10 @@ fn push_unseparated(
     pcrs: &[u32],
 ) -> Result<(), AllocError> {
     for pcr in pcrs {
-        push_pcr(text, log, *pcr)?;
+        let value = unseparated_json(log, *pcr)?;
+        push_line(text, &value)?;
     }
     Ok(())
-}
-
-/// Appends the line of a PCR without a separator.
-fn push_pcr(text: &mut String, log: &str, pcr: u32) -> Result<(), AllocError> {
-    let value = unseparated_json(log, pcr)?;
-    push_line(text, &value)
 }
 
 /// Returns a PCR without a separator.

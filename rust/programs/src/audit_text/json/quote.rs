@@ -6,12 +6,11 @@ use crate::audit_text::json::coverage::{covered_json, not_covered_json, push_unl
 use crate::audit_text::json::digests::algorithm_json;
 use crate::audit_text::json::event::hex_json;
 use crate::audit_text::json::line::push_line;
-use uefi_formats::pcr::{NoQuoteDigest, PcrValue};
 use crate::serde_json::{Map, Value, json, put};
 use crate::support::alloc::AllocError;
 use uefi_formats::pcr::{ClockInfo, PcrSelection, Quote};
 use crate::uefi_audits::naming::bank_name;
-use crate::uefi_audits::verify::{ComparedQuote, QuoteVerdict, ReceivedQuote};
+use crate::uefi_audits::verify::{ComparedQuote, QuoteVerdict};
 
 /// Appends whether a log agrees with a quote as one line of JSON: an object, and a line break.
 ///
@@ -100,15 +99,18 @@ fn quote_object(verdict: &QuoteVerdict<'_>) -> Result<Value, AllocError> {
     put(&mut members, "digest_agrees", digest_agrees)?;
     let hash = Value::try_from_str(bank_name(received.hash))?;
     put(&mut members, "hash", hash)?;
-    let leads_to = digest_json(&verdict.digest)?;
+    let leads_to = match &verdict.digest {
+        Ok(digest) => hex_json(digest.as_bytes())?,
+        Err(_) => Value::Null,
+    };
     put(&mut members, "leads_to", leads_to)?;
     let nonce = hex_json(quote.extra_data())?;
     put(&mut members, "nonce", nonce)?;
-    put(
-        &mut members,
-        "nonce_agrees",
-        nonce_agrees_json(received),
-    )?;
+    let nonce_agrees = match received.nonce {
+        Some(_) => Value::Bool(received.has_its_nonce()),
+        None => Value::Null,
+    };
+    put(&mut members, "nonce_agrees", nonce_agrees)?;
     Ok(Value::Object(members))
 }
 
@@ -152,20 +154,4 @@ fn clock_json(clock_info: ClockInfo) -> Result<Value, AllocError> {
         "restart_count": restart_count,
         "safe": safe
     })
-}
-
-/// Returns the digest to which a log leads, in hex; `null` if it leads to none.
-fn digest_json(digest: &Result<PcrValue, NoQuoteDigest>) -> Result<Value, AllocError> {
-    match digest {
-        Ok(digest) => hex_json(digest.as_bytes()),
-        Err(_) => Ok(Value::Null),
-    }
-}
-
-/// Returns whether a quote has the nonce that was asked for; `null` if any will do.
-fn nonce_agrees_json(received: &ReceivedQuote<'_>) -> Value {
-    match received.nonce {
-        Some(_) => Value::Bool(received.has_its_nonce()),
-        None => Value::Null,
-    }
 }

@@ -58,7 +58,7 @@ fn replay_json(
     put(&mut members, "locality", locality)?;
     let log = Value::try_from_str(name)?;
     put(&mut members, "log", log)?;
-    let not_replayed = not_replayed_json(algorithms, shown_banks(banks))?;
+    let not_replayed = not_replayed_json(algorithms, banks.unwrap_or(&[]))?;
     put(&mut members, "not_replayed", not_replayed)?;
     let padding = part_json(offset, facts.trailing.padding)?;
     put(&mut members, "padding", padding)?;
@@ -77,9 +77,4 @@ fn part_json(offset: usize, count: usize) -> Result<Value, AllocError> {
 fn locality_json(known: &KnownStart) -> Result<Value, AllocError> {
     let (number, stated) = (known.start.locality, known.is_stated);
     json!({"number": number, "stated": stated})
-}
-
-/// Returns the banks that the object of a log has: none if the log is refused.
-fn shown_banks(banks: Option<&[BankPcrs]>) -> &[BankPcrs] {
-    banks.unwrap_or(&[])
 }

@@ -114,27 +114,19 @@ fn pcr_json(
     held: &HeldPcr,
     outcome: Option<&Result<PcrValue, Undetermined>>,
 ) -> Result<Value, AllocError> {
-    let mut members = Map::new();
-    let bank = Value::try_from_str(bank_name(held.bank))?;
-    put(&mut members, "bank", bank)?;
     let held_value = hex_json(held.value.as_bytes())?;
-    put(&mut members, "held", held_value)?;
-    let led = led_json(outcome)?;
-    put(&mut members, "leads_to", led)?;
-    put(&mut members, "pcr", Value::from(held.pcr))?;
+    let leads_to = match outcome {
+        Some(Ok(value)) => hex_json(value.as_bytes())?,
+        _ => Value::Null,
+    };
     let undetermined = undetermined_by(outcome)?;
-    put(&mut members, "undetermined", undetermined)?;
-    Ok(Value::Object(members))
-}
-
-/// Returns what the log leads to in a PCR, in hex; `null` if it leads to no value.
-fn led_json(
-    outcome: Option<&Result<PcrValue, Undetermined>>,
-) -> Result<Value, AllocError> {
-    match outcome {
-        Some(Ok(value)) => hex_json(value.as_bytes()),
-        _ => Ok(Value::Null),
-    }
+    json!({
+        "bank": bank_name(held.bank),
+        "held": held_value,
+        "leads_to": leads_to,
+        "pcr": held.pcr,
+        "undetermined": undetermined
+    })
 }
 
 /// Returns the event by which a PCR is undetermined; `null` if it isn't.
@@ -142,14 +134,11 @@ fn undetermined_by(
     outcome: Option<&Result<PcrValue, Undetermined>>,
 ) -> Result<Value, AllocError> {
     match outcome {
-        Some(Err(at)) => event_json(at),
+        Some(Err(at)) => {
+            let (index, offset) = (at.index, at.offset);
+            let reason = fallible_format!("{}", at.fault)?;
+            json!({"index": index, "offset": offset, "reason": reason})
+        }
         _ => Ok(Value::Null),
     }
-}
-
-/// Returns the event by which a PCR is undetermined: its index, its offset, and why.
-fn event_json(at: &Undetermined) -> Result<Value, AllocError> {
-    let (index, offset) = (at.index, at.offset);
-    let reason = fallible_format!("{}", at.fault)?;
-    json!({"index": index, "offset": offset, "reason": reason})
 }

@@ -86,40 +86,28 @@ pub(crate) fn described_parts<'a>(
 
 /// Returns the parts of tagged events, and the bytes after them.
 pub(crate) fn tagged_events_parts<'a>(tagged: &TaggedData<'a>) -> PartsResult<'a> {
-    let events = PartValue::List(tagged_values(tagged)?);
-    Ok(fallible_vec![Part::new("events", "", events), Part::rest(tagged.rest())]?)
-}
-
-/// Returns the tagged events, in order.
-fn tagged_values<'a>(
-    tagged: &TaggedData<'a>,
-) -> Result<Vec<PartValue<'a>>, AllocError> {
-    let mut values = Vec::new();
+    let mut events = Vec::new();
     for event in tagged.iter() {
-        values.fallible_push(PartValue::Object(tagged_parts(&event)?))?;
+        events.fallible_push(PartValue::Object(tagged_parts(&event)?))?;
     }
-    Ok(values)
+    let events = PartValue::List(events);
+    Ok(fallible_vec![Part::new("events", "", events), Part::rest(tagged.rest())]?)
 }
 
 /// Returns the parts of a tagged event.
 fn tagged_parts<'a>(event: &TaggedEvent<'a>) -> PartsResult<'a> {
-    let tag = tag_parts(event.id)?;
+    let number = PartValue::Hexadecimal(u64::from(event.id));
+    let tag = match tag_name(event.id) {
+        Some(name) => {
+            let name = PartValue::Plain(String::fallible_from_str(name)?);
+            fallible_vec![Part::new("name", "  tagged event ", name),
+                Part::new("id", " ", number),]?
+        }
+        None => fallible_vec![Part::new("id", "  tagged event ", number)]?,
+    };
     let text = event_value(&EventText::read(event.data))?;
     let others = fallible_vec![Part::in_json("data", PartValue::Bytes(event.data)),
         Part::new("text", ": ", text),
         Part::words("\n"),]?;
     joined(tag, others)
-}
-
-/// Returns the parts of a tag: its name, if it has one, and its number.
-fn tag_parts<'a>(id: u32) -> PartsResult<'a> {
-    let number = PartValue::Hexadecimal(u64::from(id));
-    match tag_name(id) {
-        Some(name) => {
-            let name = PartValue::Plain(String::fallible_from_str(name)?);
-            Ok(fallible_vec![Part::new("name", "  tagged event ", name),
-                Part::new("id", " ", number),]?)
-        }
-        None => Ok(fallible_vec![Part::new("id", "  tagged event ", number)]?),
-    }
 }

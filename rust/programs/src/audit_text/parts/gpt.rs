@@ -4,13 +4,15 @@ use crate::support::fallible::*;
 
 use crate::audit_text::parts::part::{Part, PartValue, PartsResult};
 use crate::audit_text::words::texts::text_before_nul;
-use crate::support::alloc::AllocError;
 use uefi_formats::proto::tcg::content::{GptData, GptEntry};
 
 /// Returns the parts of a partition table: the disk, and the partitions.
 pub(crate) fn gpt_parts<'a>(gpt: &GptData<'_>) -> PartsResult<'a> {
     let header = gpt.header();
-    let partitions = PartValue::List(partition_values(gpt)?);
+    let mut partitions = Vec::new();
+    for entry in gpt.iter() {
+        partitions.fallible_push(PartValue::Object(partition_parts(&entry)?))?;
+    }
     Ok(fallible_vec![Part::new("disk_guid", "  disk ", PartValue::Guid(header.disk_guid)),
         Part::new(
             "first_usable_lba",
@@ -23,16 +25,7 @@ pub(crate) fn gpt_parts<'a>(gpt: &GptData<'_>) -> PartsResult<'a> {
             PartValue::Decimal(header.last_usable_lba)
         ),
         Part::words("\n"),
-        Part::new("partitions", "", partitions),]?)
-}
-
-/// Returns the partitions, in order.
-fn partition_values<'a>(gpt: &GptData<'_>) -> Result<Vec<PartValue<'a>>, AllocError> {
-    let mut values = Vec::new();
-    for entry in gpt.iter() {
-        values.fallible_push(PartValue::Object(partition_parts(&entry)?))?;
-    }
-    Ok(values)
+        Part::new("partitions", "", PartValue::List(partitions)),]?)
 }
 
 /// Returns the parts of a partition, with its name up to the first NUL.

@@ -4,7 +4,6 @@ use crate::support::fallible::*;
 
 use crate::audit_text::parts::part::{Part, PartValue, PartsResult, joined};
 use crate::audit_text::words::path_text;
-use crate::support::alloc::AllocError;
 use uefi_formats::proto::tcg::content::ImageLoadEvent;
 use uefi_formats::proto::device_path::{DevicePath, DevicePathNode};
 
@@ -22,39 +21,25 @@ pub(crate) fn image_parts<'a>(
         Part::new("length", ", ", PartValue::Decimal(image.length_in_memory)),
         Part::new("link_address", " bytes, linked for ", linked),
         Part::words("\n"),]?;
-    let path = path_or_bytes(image.device_path, path)?;
+    let path = match path {
+        Some(path) => path_parts(path)?,
+        None => fallible_vec![Part::bytes("path", "  path", image.device_path)]?,
+    };
     let mut parts = joined(numbers, path)?;
     parts.fallible_push(Part::rest(image.rest))?;
     Ok(parts)
 }
 
-/// Returns the parts of a device path; the bytes, if they are no path.
-fn path_or_bytes<'a>(
-    bytes: &'a [u8],
-    path: &Option<DevicePath<'a>>,
-) -> PartsResult<'a> {
-    match path {
-        Some(path) => path_parts(path),
-        None => Ok(fallible_vec![Part::bytes("path", "  path", bytes)]?),
-    }
-}
-
 /// Returns the parts of a device path: its nodes before the one that ends it, and its text.
 pub(crate) fn path_parts<'a>(path: &DevicePath<'a>) -> PartsResult<'a> {
-    let nodes = PartValue::List(node_values(path)?);
+    let mut nodes = Vec::new();
+    for node in path.node_iter() {
+        nodes.fallible_push(PartValue::Object(node_parts(&node)?))?;
+    }
     let text = path_text(*path).fallible_to_string()?;
-    Ok(fallible_vec![Part::in_json("path", nodes),
+    Ok(fallible_vec![Part::in_json("path", PartValue::List(nodes)),
         Part::new("text", "  path ", PartValue::Plain(text)),
         Part::words("\n"),]?)
-}
-
-/// Returns the nodes before the one that ends the path.
-fn node_values<'a>(path: &DevicePath<'a>) -> Result<Vec<PartValue<'a>>, AllocError> {
-    let mut values = Vec::new();
-    for node in path.node_iter() {
-        values.fallible_push(PartValue::Object(node_parts(&node)?))?;
-    }
-    Ok(values)
 }
 
 /// Returns the parts of a node: its data, its subtype and its type.

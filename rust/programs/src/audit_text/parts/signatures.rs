@@ -3,7 +3,7 @@
 use crate::support::fallible::*;
 
 use crate::audit_text::parts::part::{Part, PartValue, PartsResult, joined};
-use crate::audit_text::words::signatures::{is_shown_whole, signature_type_name};
+use crate::audit_text::words::signatures::{LONGEST_HASH, signature_type_name};
 use crate::sha2::{Digest, Sha256};
 use crate::support::alloc::AllocError;
 use uefi_formats::proto::tcg::content::{
@@ -24,10 +24,13 @@ pub(crate) fn lists_value<'a>(
 /// Returns the parts of a list of signatures: what they are, its header, and the signatures.
 fn list_parts<'a>(list: &SignatureList<'a>) -> PartsResult<'a> {
     let kind = kind_parts(list.signature_type())?;
-    let signatures = signatures_value(list)?;
+    let mut signatures = Vec::new();
+    for signature in list.iter() {
+        signatures.fallible_push(PartValue::Object(signature_parts(&signature)?))?;
+    }
     let others = fallible_vec![Part::words("\n"),
         Part::bytes("header", "  header", list.header()),
-        Part::new("signatures", "", signatures),]?;
+        Part::new("signatures", "", PartValue::List(signatures)),]?;
     joined(kind, others)
 }
 
@@ -44,48 +47,23 @@ fn kind_parts<'a>(kind: SignatureType) -> PartsResult<'a> {
     }
 }
 
-/// Returns the signatures of a list, in order.
-fn signatures_value<'a>(
-    list: &SignatureList<'a>,
-) -> Result<PartValue<'a>, AllocError> {
-    let mut values = Vec::new();
-    for signature in list.iter() {
-        values.fallible_push(PartValue::Object(signature_parts(&signature)?))?;
-    }
-    Ok(PartValue::List(values))
-}
-
 /// Returns the parts of a signature: its owner, and its data, or their length and SHA-256.
 pub(crate) fn signature_parts<'a>(signature: &SignatureData<'_>) -> PartsResult<'a> {
-    if is_shown_whole(signature.data) {
-        hash_parts(signature)
-    } else {
-        certificate_parts(signature)
+    let owner = Part::new(
+        "owner",
+        "  signature of owner ",
+        PartValue::Guid(signature.owner),
+    );
+    if signature.data.len() <= LONGEST_HASH {
+        let digits = crate::hex::encode(signature.data)?;
+        return Ok(fallible_vec![owner,
+            Part::new("data", ": ", PartValue::Plain(digits)),
+            Part::words("\n"),]?);
     }
-}
-
-/// Returns the parts of a signature with its data.
-fn hash_parts<'a>(signature: &SignatureData<'_>) -> PartsResult<'a> {
-    let digits = crate::hex::encode(signature.data)?;
-    Ok(fallible_vec![Part::new(
-            "owner",
-            "  signature of owner ",
-            PartValue::Guid(signature.owner)
-        ),
-        Part::new("data", ": ", PartValue::Plain(digits)),
-        Part::words("\n"),]?)
-}
-
-/// Returns the parts of a signature with the length and the SHA-256 of its data.
-fn certificate_parts<'a>(signature: &SignatureData<'_>) -> PartsResult<'a> {
     let length = signature.data.len() as u64;
     let digest = Sha256::digest(signature.data);
     let digits = crate::hex::encode(digest.as_slice())?;
-    Ok(fallible_vec![Part::new(
-            "owner",
-            "  signature of owner ",
-            PartValue::Guid(signature.owner)
-        ),
+    Ok(fallible_vec![owner,
         Part::new("length", ": ", PartValue::Decimal(length)),
         Part::new("sha256", " bytes with SHA-256 ", PartValue::Plain(digits)),
         Part::words("\n"),]?)

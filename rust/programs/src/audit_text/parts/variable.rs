@@ -33,19 +33,14 @@ pub(crate) fn unread_parts<'a>(bytes: &'a [u8]) -> PartsResult<'a> {
 /// Returns the parts of a boot option: its attributes, its description, its path, and the data for
 /// its image.
 pub(crate) fn boot_option_parts<'a>(option: &LoadOption<'a>) -> PartsResult<'a> {
-    let line = boot_option_line(option)?;
+    let attributes = PartValue::Hexadecimal(u64::from(option.attributes().bits()));
+    let description = PartValue::Text(description_text(option)?);
+    let line = fallible_vec![Part::new("attributes", "  boot option with attributes ", attributes),
+        Part::new("description", ": ", description),
+        Part::words("\n"),]?;
     let path = path_parts(&option.file_path())?;
     let data = optional_data_parts(option.optional_data())?;
     joined(line, joined(path, data)?)
-}
-
-/// Returns the attributes and the description of a boot option.
-fn boot_option_line<'a>(option: &LoadOption<'_>) -> PartsResult<'a> {
-    let attributes = PartValue::Hexadecimal(u64::from(option.attributes().bits()));
-    let description = PartValue::Text(description_text(option)?);
-    Ok(fallible_vec![Part::new("attributes", "  boot option with attributes ", attributes),
-        Part::new("description", ": ", description),
-        Part::words("\n"),]?)
 }
 
 /// Returns the data for the image of a boot option, and the text that they are.

@@ -1,6 +1,6 @@
 // @generated from proved source. It is not edited.
 
-use uefi_formats::pcr::{BankPcrs, PcrValue, Pcrs, Undetermined};
+use uefi_formats::pcr::{BankPcrs, PcrValue, Undetermined};
 use crate::support::alloc::AllocError;
 use crate::uefi_audits::naming::bank_name;
 
@@ -32,15 +32,7 @@ pub fn push_bank(
 ) -> Result<(), AllocError> {
     let name = bank_name(bank.bank);
     fallible_writeln!(text, "  {name}:")?;
-    push_pcrs(text, &bank.pcrs)
-}
-
-/// Appends a line for each PCR.
-fn push_pcrs(
-    text: &mut String,
-    pcrs: &Pcrs,
-) -> Result<(), AllocError> {
-    let outcomes = pcrs.outcomes();
+    let outcomes = bank.pcrs.outcomes();
     for number in 0..outcomes.len() {
         push_pcr(text, number, &outcomes[number])?;
     }

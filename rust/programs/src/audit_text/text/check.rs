@@ -28,7 +28,10 @@ pub fn push_check(
 ) -> Result<(), AllocError> {
     push_mismatches(text, name, found.mismatches.as_slice())?;
     push_remarks(text, name, &found.remarks)?;
-    push_types(text, found.types.as_slice())
+    for counts in &found.types {
+        push_counts(text, counts)?;
+    }
+    Ok(())
 }
 
 /// Appends a line for each event that matches in none of its type's forms.
@@ -57,14 +60,6 @@ fn push_mismatch(
     fallible_writeln!(text,
         ", PCR {pcr}) matches in none of the forms of its type"
     )
-}
-
-/// Appends a line for each type.
-fn push_types(text: &mut String, types: &[TypeCounts]) -> Result<(), AllocError> {
-    for counts in types {
-        push_counts(text, counts)?;
-    }
-    Ok(())
 }
 
 /// Appends the line of a type.

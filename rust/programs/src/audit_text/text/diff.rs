@@ -3,10 +3,10 @@
 //! How two event logs differ, as the lines that the program `uefi_audit` prints.
 
 pub use self::change::push_change;
-use self::lines::{push_changed_line, push_compared_line, push_moved_line, push_only_line};
+use self::lines::{push_changed_line, push_compared_line, push_earlier_line, push_only_line};
 use crate::audit_text::ComparedLogs;
 use crate::support::alloc::AllocError;
-use crate::uefi_audits::diff::{EventChange, NumberedEntry, PcrDifference};
+use crate::uefi_audits::diff::{EventDifference, PcrDifference, event_differences};
 
 mod change;
 mod lines;
@@ -31,43 +31,34 @@ pub fn push_differences(
     differences: &[PcrDifference<'_>],
 ) -> Result<(), AllocError> {
     push_compared_line(text, logs.algorithms)?;
-    push_pcrs(text, logs, differences)
+    let differences = event_differences(differences)?;
+    push_each(text, logs, differences.as_slice())
 }
 
-/// Appends how the events of PCRs differ.
-fn push_pcrs(
+/// Appends a line for each of these differences.
+fn push_each(
     text: &mut String,
     logs: &ComparedLogs<'_>,
-    differences: &[PcrDifference<'_>],
+    differences: &[EventDifference<'_, '_>],
 ) -> Result<(), AllocError> {
     for difference in differences {
-        push_pcr(text, logs, difference)?;
+        push_difference(text, logs, difference)?;
     }
     Ok(())
 }
 
-/// Appends how the events of a PCR differ.
-fn push_pcr(
+/// Appends the line of a difference.
+fn push_difference(
     text: &mut String,
     logs: &ComparedLogs<'_>,
-    difference: &PcrDifference<'_>,
+    difference: &EventDifference<'_, '_>,
 ) -> Result<(), AllocError> {
-    push_changed(text, logs, difference.changed.as_slice())?;
-    push_only(text, logs, difference.only_old.as_slice())?;
-    push_only(text, &reversed(logs), difference.only_new.as_slice())?;
-    push_moved_line(text, logs, &difference.moved)
-}
-
-/// Appends a line for each of these events that differ from their counterparts.
-fn push_changed(
-    text: &mut String,
-    logs: &ComparedLogs<'_>,
-    changed: &[EventChange<'_>],
-) -> Result<(), AllocError> {
-    for change in changed {
-        push_changed_line(text, logs, change)?;
+    match difference {
+        EventDifference::Changed(change) => push_changed_line(text, logs, change),
+        EventDifference::OnlyOld(found) => push_only_line(text, logs, found),
+        EventDifference::OnlyNew(found) => push_only_line(text, &reversed(logs), found),
+        EventDifference::Moved(change) => push_earlier_line(text, logs, change),
     }
-    Ok(())
 }
 
 /// Returns the logs the other way round.
@@ -77,16 +68,4 @@ fn reversed<'a>(logs: &ComparedLogs<'a>) -> ComparedLogs<'a> {
         new_name: logs.old_name,
         algorithms: logs.algorithms,
     }
-}
-
-/// Appends a line for each of these events of the old log, which the new one doesn't have.
-fn push_only(
-    text: &mut String,
-    logs: &ComparedLogs<'_>,
-    only: &[NumberedEntry<'_>],
-) -> Result<(), AllocError> {
-    for found in only {
-        push_only_line(text, logs, found)?;
-    }
-    Ok(())
 }

@@ -17,19 +17,10 @@ pub fn push_missing(
     missing: &[NamedPcr],
 ) -> Result<(), AllocError> {
     for pcr in missing {
-        push_line(messages, name, pcr)?;
+        let (name, bank, pcr) = (ShownName(name), bank_name(pcr.bank), pcr.pcr);
+        fallible_writeln!(messages,
+            "{name}: states no {bank} PCR {pcr}, which is asked for"
+        )?;
     }
     Ok(())
-}
-
-/// Appends the line of a PCR.
-fn push_line(
-    messages: &mut String,
-    name: &str,
-    missing: &NamedPcr,
-) -> Result<(), AllocError> {
-    let (name, bank, pcr) = (ShownName(name), bank_name(missing.bank), missing.pcr);
-    fallible_writeln!(messages,
-        "{name}: states no {bank} PCR {pcr}, which is asked for"
-    )
 }

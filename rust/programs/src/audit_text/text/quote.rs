@@ -5,13 +5,12 @@ use crate::support::fallible::*;
 use crate::audit_text::text::agreement::{push_agreement, push_ranges};
 use crate::audit_text::text::undetermined::push_line;
 use crate::audit_text::text::unreplayed::{push_inactive, push_unsupported};
-use uefi_formats::pcr::{NoQuoteDigest, Undetermined};
+use uefi_formats::pcr::NoQuoteDigest;
 use crate::shown::ShownName;
 use crate::support::alloc::AllocError;
 use uefi_formats::pcr::ClockInfo;
 use crate::uefi_audits::naming::{bank_name, bank_of};
 use crate::uefi_audits::verify::{NamedPcr, QuoteVerdict, ReceivedQuote, covered_pcrs};
-use uefi_formats::proto::tcg::{AlgorithmId, PcrIndex};
 
 /// Appends the line of a quote's nonce, if it isn't the one that the quote was asked for with. The
 /// line begins with `name`, that of the quote's file.
@@ -30,21 +29,11 @@ pub fn push_other_nonce(
     if received.has_its_nonce() {
         return Ok(());
     }
-    push_nonces(text, name, received.quote.extra_data(), nonce)
-}
-
-/// Appends the line of a nonce that isn't the one that was asked for.
-fn push_nonces(
-    text: &mut String,
-    name: &str,
-    quoted: &[u8],
-    asked: &[u8],
-) -> Result<(), AllocError> {
     let name = ShownName(name);
     fallible_write!(text, "{name}: has ")?;
-    push_nonce(text, quoted)?;
+    push_nonce(text, received.quote.extra_data())?;
     text.fallible_push_str(", not ")?;
-    push_nonce(text, asked)?;
+    push_nonce(text, nonce)?;
     text.fallible_push_str("\n")
 }
 
@@ -164,33 +153,15 @@ pub fn push_no_digest(
     why: NoQuoteDigest,
 ) -> Result<(), AllocError> {
     match why {
-        NoQuoteDigest::NoBank(algorithm) => push_no_bank(messages, name, algorithm),
-        NoQuoteDigest::Undetermined(algorithm, pcr, at) => {
-            push_no_value(messages, name, algorithm, pcr, &at)
-        }
+        NoQuoteDigest::NoBank(algorithm) => match bank_of(algorithm) {
+            Some(bank) => push_inactive(messages, name, &[bank]),
+            None => push_unsupported(messages, name, &[algorithm.0]),
+        },
+        NoQuoteDigest::Undetermined(algorithm, pcr, at) => match bank_of(algorithm) {
+            Some(bank) => push_line(messages, name, bank, pcr.0 as usize, &at),
+            None => push_unsupported(messages, name, &[algorithm.0]),
+        },
         _ => unreachable!(),
-    }
-}
-
-/// Appends that the bank of an algorithm isn't in a log.
-fn push_no_bank(messages: &mut String, name: &str, algorithm: AlgorithmId) -> Result<(), AllocError> {
-    match bank_of(algorithm) {
-        Some(bank) => push_inactive(messages, name, &[bank]),
-        None => push_unsupported(messages, name, &[algorithm.0]),
-    }
-}
-
-/// Appends by which event a PCR is undetermined.
-fn push_no_value(
-    messages: &mut String,
-    name: &str,
-    algorithm: AlgorithmId,
-    pcr: PcrIndex,
-    at: &Undetermined,
-) -> Result<(), AllocError> {
-    match bank_of(algorithm) {
-        Some(bank) => push_line(messages, name, bank, pcr.0 as usize, at),
-        None => push_unsupported(messages, name, &[algorithm.0]),
     }
 }
 

@@ -19,19 +19,10 @@ pub fn push_inactive(
     banks: &[Bank],
 ) -> Result<(), AllocError> {
     for bank in banks {
-        push_line(messages, name, *bank)?;
+        let (name, bank) = (ShownName(name), bank_name(*bank));
+        fallible_writeln!(messages, "{name}: no event has a digest of the bank {bank}")?;
     }
     Ok(())
-}
-
-/// Appends that no event has a digest of a bank.
-fn push_line(
-    messages: &mut String,
-    name: &str,
-    bank: Bank,
-) -> Result<(), AllocError> {
-    let (name, bank) = (ShownName(name), bank_name(bank));
-    fallible_writeln!(messages, "{name}: no event has a digest of the bank {bank}")
 }
 
 /// Appends which banks can't be replayed, those of these algorithms, if there are any.
@@ -58,13 +49,8 @@ pub fn push_unsupported(
 /// Appends further algorithms, each after a comma.
 fn push_others(messages: &mut String, algorithms: &[u16]) -> Result<(), AllocError> {
     for algorithm in algorithms {
-        push_other(messages, *algorithm)?;
+        messages.fallible_push_str(", ")?;
+        push_number(messages, *algorithm)?;
     }
     Ok(())
-}
-
-/// Appends a comma and an algorithm.
-fn push_other(messages: &mut String, algorithm: u16) -> Result<(), AllocError> {
-    messages.fallible_push_str(", ")?;
-    push_number(messages, algorithm)
 }

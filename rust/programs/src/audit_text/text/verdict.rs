@@ -23,16 +23,6 @@ pub fn push_verdict(
         let named = named_pcrs(held)?;
         return push_agreement(text, name, named.as_slice(), verdict.start.start.locality);
     }
-    push_disagreements(text, name, held, verdict)
-}
-
-/// Appends a line for each PCR that doesn't agree.
-fn push_disagreements(
-    text: &mut String,
-    name: &str,
-    held: &[HeldPcr],
-    verdict: &Verdict,
-) -> Result<(), AllocError> {
     for pcr in held {
         push_if_disagreeing(text, name, pcr, verdict)?;
     }

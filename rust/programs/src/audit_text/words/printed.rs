@@ -10,14 +10,9 @@ use uefi_formats::UnalignedSlice;
 /// each or, as in UTF-16, of two, with a NUL after the last one or without it.
 pub(crate) fn printed_text(bytes: &[u8]) -> Result<Option<String>, AllocError> {
     let text = bytes_before_nul(bytes)?;
-    match if_printed(text, bytes.len()) {
-        Some(text) => Ok(Some(text)),
-        None => wide_text(bytes),
+    if let Some(text) = if_printed(text, bytes.len()) {
+        return Ok(Some(text));
     }
-}
-
-/// Returns the text that characters of two bytes each are, if all of it prints.
-fn wide_text(bytes: &[u8]) -> Result<Option<String>, AllocError> {
     if bytes.len() % 2 != 0 {
         return Ok(None);
     }

@@ -97,28 +97,17 @@ fn push_text(text: &mut String, said: &str) -> Result<(), AllocError> {
     let characters = characters_of(said)?;
     let all = characters.as_slice();
     let (first, rest) = all.split_at(SHOWN_LENGTH.min(all.len()));
-    push_characters(text, first)?;
+    for character in first {
+        let mut room = [0; 4];
+        let shown = ShownName(character.encode_utf8(&mut room));
+        fallible_write!(text, "{shown}")?;
+    }
     push_more(text, rest.len())
 }
 
 /// Returns the characters of a text.
 fn characters_of(text: &str) -> Result<Vec<char>, AllocError> {
     text.chars().fallible_collect()
-}
-
-/// Appends characters as those of a file's name are shown.
-fn push_characters(text: &mut String, characters: &[char]) -> Result<(), AllocError> {
-    for character in characters {
-        push_character(text, *character)?;
-    }
-    Ok(())
-}
-
-/// Appends a character as that of a file's name is shown.
-fn push_character(text: &mut String, character: char) -> Result<(), AllocError> {
-    let mut room = [0; 4];
-    let shown = ShownName(character.encode_utf8(&mut room));
-    fallible_write!(text, "{shown}")
 }
 
 /// Appends the first units as text.
@@ -172,21 +161,12 @@ fn push_image(
         return text.fallible_push_str("image");
     }
     text.fallible_push_str("image ")?;
-    push_path(text, image.device_path, path)
-}
-
-/// Appends the text of a device path; the first of these bytes in hex, if they are none.
-fn push_path(
-    text: &mut String,
-    bytes: &[u8],
-    path: &Option<DevicePath<'_>>,
-) -> Result<(), AllocError> {
     match path {
         Some(path) => {
             let path = path_text(*path);
             fallible_write!(text, "{path}")
         }
-        None => push_hex(text, bytes),
+        None => push_hex(text, image.device_path),
     }
 }
 

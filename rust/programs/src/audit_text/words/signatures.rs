@@ -4,12 +4,7 @@ use uefi_formats::proto::tcg::content::SignatureType;
 
 /// The longest data of a signature that are shown whole: a hash of 64 bytes, with the time of a
 /// revocation.
-const LONGEST_HASH: usize = 80;
-
-/// Returns whether the data of a signature are shown whole.
-pub(crate) fn is_shown_whole(bytes: &[u8]) -> bool {
-    bytes.len() <= LONGEST_HASH
-}
+pub(crate) const LONGEST_HASH: usize = 80;
 
 /// Returns what the signatures of a type are; `None` for a type without a name here.
 pub(crate) fn signature_type_name(kind: SignatureType) -> Option<&'static str> {

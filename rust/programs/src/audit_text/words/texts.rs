@@ -33,10 +33,7 @@ pub(crate) fn text_before_nul(
 
 /// Returns the character of a unit: U+FFFD for a surrogate.
 pub(crate) fn character(unit: u16) -> char {
-    match char::from_u32(u32::from(unit)) {
-        Some(character) => character,
-        None => '\u{fffd}',
-    }
+    char::from_u32(u32::from(unit)).unwrap_or('\u{fffd}')
 }
 
 /// Returns bytes as text: each is the character of its number.

@@ -68,13 +68,6 @@ pub(super) fn counts_of(
         let it = &all[index];
         count(&mut types, it.entry.event.event_type(), it.checked)?;
     }
-    in_order(&types)
-}
-
-/// Returns the counts in the order of the types' numbers.
-fn in_order(
-    types: &BTreeMap<u32, TypeCounts>,
-) -> Result<Vec<TypeCounts>, AllocError> {
     types.values().copied().fallible_collect()
 }
 

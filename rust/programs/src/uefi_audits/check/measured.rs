@@ -14,9 +14,7 @@ pub(super) fn without_nul(bytes: &[u8]) -> Option<&[u8]> {
 /// Returns the command in the data of an event, between what GRUB writes before it and the closing
 /// NUL.
 pub(super) fn command_in(bytes: &[u8]) -> Option<&[u8]> {
-    let Some(text) = without_nul(bytes) else {
-        return None;
-    };
+    let text = without_nul(bytes)?;
     if let Some(command) = text.strip_prefix(b"grub_cmd: ") {
         return Some(command);
     }

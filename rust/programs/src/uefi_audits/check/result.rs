@@ -112,14 +112,11 @@ fn checked_if_covered(
 /// PCRs each event is covered.
 fn is_covered(event: &LogEvent<'_>, covered: Option<&[NamedPcr]>) -> bool {
     match covered {
-        Some(pcrs) => pcrs.iter().any(|it| is_covered_by(event, *it)),
+        Some(pcrs) => pcrs
+            .iter()
+            .any(|it| extends(event, it.pcr) && has_digest(it.bank, event)),
         None => true,
     }
-}
-
-/// Returns whether an event extends a PCR, and has a digest of its bank.
-fn is_covered_by(event: &LogEvent<'_>, it: NamedPcr) -> bool {
-    extends(event, it.pcr) && has_digest(it.bank, event)
 }
 
 /// Returns the events that match in none of the forms of their types.
@@ -139,15 +136,10 @@ fn push_if_mismatch<'a>(
     index: usize,
     it: &CheckedEntry<'a>,
 ) -> Result<(), AllocError> {
-    if !is_mismatch(it.checked) {
+    if it.checked != Some(Checked::MatchesNone) {
         return Ok(());
     }
     let entry = it.entry;
     found.fallible_push(Mismatch { index, entry })?;
     Ok(())
-}
-
-/// Returns whether an event is covered and matches in none of the forms of its type.
-fn is_mismatch(checked: Option<Checked>) -> bool {
-    matches!(checked, Some(Checked::MatchesNone))
 }

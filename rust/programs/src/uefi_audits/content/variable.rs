@@ -136,21 +136,10 @@ fn is_boot_option_name(name: &UnalignedSlice<'_>) -> bool {
 
 /// Returns whether a name has a unit at an index.
 fn has_unit(name: &UnalignedSlice<'_>, index: usize, unit: u16) -> bool {
-    match name.get(index) {
-        Some(found) => found == unit,
-        None => false,
-    }
+    name.get(index) == Some(unit)
 }
 
 /// Returns whether a name has an upper-case hex digit at an index.
 fn has_digit(name: &UnalignedSlice<'_>, index: usize) -> bool {
-    match name.get(index) {
-        Some(found) => is_upper_hex_digit(found),
-        None => false,
-    }
-}
-
-/// Returns whether a unit is an upper-case hex digit.
-fn is_upper_hex_digit(unit: u16) -> bool {
-    matches!(unit, 0x30..=0x39 | 0x41..=0x46)
+    matches!(name.get(index), Some(0x30..=0x39 | 0x41..=0x46))
 }

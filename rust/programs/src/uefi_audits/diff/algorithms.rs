@@ -32,7 +32,7 @@ pub fn compared_algorithms(
 
 /// Returns whether the digests of an algorithm are compared: the new log has it, and it is asked for.
 fn is_compared(bank: Option<Bank>, news: &[u16], number: u16) -> bool {
-    is_one_of(news, number) && is_asked(bank, number)
+    news.contains(&number) && is_asked(bank, number)
 }
 
 /// Returns whether an algorithm is asked for: it is that of the bank, or no bank is.
@@ -43,19 +43,10 @@ fn is_asked(bank: Option<Bank>, number: u16) -> bool {
     }
 }
 
-/// Returns whether a number is one of these.
-fn is_one_of(numbers: &[u16], number: u16) -> bool {
-    numbers.iter().any(|it| *it == number)
-}
-
 /// Returns the numbers of the algorithms whose digests the events of a log have.
 fn algorithms_of(read: &ReadLog<'_>) -> Result<Vec<u16>, AllocError> {
     match read.header() {
         Some(header) => each_algorithm(&header.algorithm_digest_sizes()),
-        None => {
-            let mut numbers = Vec::new();
-            numbers.fallible_push(AlgorithmId::SHA1.0)?;
-            Ok(numbers)
-        }
+        None => Vec::fallible_from_slice(&[AlgorithmId::SHA1.0]),
     }
 }

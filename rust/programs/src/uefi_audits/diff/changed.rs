@@ -18,11 +18,6 @@ pub(crate) struct EventPair<'e, 'a> {
 }
 
 impl<'e, 'a> EventPair<'e, 'a> {
-    /// Returns whether the events are the same, as far as these parts tell.
-    fn is_same(&self, parts: &ComparedParts<'_>) -> Result<bool, AllocError> {
-        is_same_event(parts, &self.old.entry.event, &self.new.entry.event)
-    }
-
     /// Returns the pair with copies of its events.
     pub(crate) fn copied(&self) -> EventChange<'a> {
         EventChange {
@@ -53,7 +48,7 @@ pub(crate) fn changed<'a>(
 ) -> Result<Vec<EventChange<'a>>, AllocError> {
     let mut found = Vec::new();
     for pair in pairs {
-        if !pair.is_same(parts)? {
+        if !is_same_event(parts, &pair.old.entry.event, &pair.new.entry.event)? {
             found.fallible_push(pair.copied())?;
         }
     }

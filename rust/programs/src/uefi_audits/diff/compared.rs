@@ -34,7 +34,9 @@ pub fn is_same_event(
     if !is_same_but_digests(parts.with_data, one, other) {
         return Ok(false);
     }
-    have_same_digests(parts.algorithms, one, other)
+    let ones: Vec<EventDigest<'_>> = one.digests().fallible_collect()?;
+    let others: Vec<EventDigest<'_>> = other.digests().fallible_collect()?;
+    Ok(are_same_digests(parts.algorithms, ones.as_slice(), others.as_slice()))
 }
 
 /// Returns whether two events are of one PCR and one type, and have the same data, if those are
@@ -43,22 +45,6 @@ fn is_same_but_digests(with_data: bool, one: &LogEvent<'_>, other: &LogEvent<'_>
     one.pcr_index() == other.pcr_index()
         && one.event_type() == other.event_type()
         && (!with_data || one.event_data() == other.event_data())
-}
-
-/// Returns whether two events have the same digests of each algorithm, in order.
-fn have_same_digests(
-    algorithms: &[AlgorithmId],
-    one: &LogEvent<'_>,
-    other: &LogEvent<'_>,
-) -> Result<bool, AllocError> {
-    let ones = digests_of(one)?;
-    let others = digests_of(other)?;
-    Ok(are_same_digests(algorithms, ones.as_slice(), others.as_slice()))
-}
-
-/// Returns the digests of an event, each with its algorithm, in order.
-fn digests_of<'a>(event: &LogEvent<'a>) -> Result<Vec<EventDigest<'a>>, AllocError> {
-    event.digests().fallible_collect()
 }
 
 /// Returns whether these digests have the same ones of each algorithm, in order.

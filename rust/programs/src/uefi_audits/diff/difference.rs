@@ -102,16 +102,7 @@ fn pcr_difference<'a>(
 ) -> Result<Option<PcrDifference<'a>>, AllocError> {
     let olds = entries_of(olds, pcr)?;
     let news = entries_of(news, pcr)?;
-    difference_in(parts, olds.as_slice(), news.as_slice(), pcr)
-}
-
-/// Returns how these events, which are all of a PCR, differ; `None` if they don't.
-fn difference_in<'a>(
-    parts: &ComparedParts<'_>,
-    olds: &[&NumberedEntry<'a>],
-    news: &[&NumberedEntry<'a>],
-    pcr: u32,
-) -> Result<Option<PcrDifference<'a>>, AllocError> {
+    let (olds, news) = (olds.as_slice(), news.as_slice());
     if first_difference(parts, olds, news)?.is_none() {
         return Ok(None);
     }

@@ -1,7 +1,7 @@
 // @generated from proved source. It is not edited.
 
 use crate::uefi_audits::diff::compared::ComparedParts;
-use crate::uefi_audits::diff::names::name_in;
+use crate::uefi_audits::diff::names::{EventName, name_in};
 use crate::uefi_audits::diff::pcr::NumberedEntry;
 use core::cmp::Ordering;
 use uefi_formats::proto::tcg::{AlgorithmId, LogEvent};
@@ -49,53 +49,19 @@ pub(crate) struct EventKey<'a> {
 impl<'a> EventKey<'a> {
     /// Returns the key of an event.
     pub(crate) fn new(found: &NumberedEntry<'a>, by: KeyedBy) -> EventKey<'a> {
-        match by {
-            KeyedBy::Data => EventKey::of_data(found),
-            KeyedBy::Name => EventKey::of_name(found),
-            KeyedBy::Digest(algorithm) => EventKey::of_digest(found, algorithm),
-        }
-    }
-
-    /// Returns the key of an event by its data.
-    fn of_data(found: &NumberedEntry<'a>) -> EventKey<'a> {
         let event = &found.entry.event;
-        EventKey {
-            pcr_index: event.pcr_index().0,
-            event_type: event.event_type().0,
-            namespace: &[],
-            name: event.event_data(),
-        }
-    }
-
-    /// Returns the key of an event by its name.
-    fn of_name(found: &NumberedEntry<'a>) -> EventKey<'a> {
-        let event = &found.entry.event;
-        let name = name_in(&found.content, event.event_data());
+        let name = match by {
+            KeyedBy::Data => EventName::new(&[], event.event_data()),
+            KeyedBy::Name => name_in(&found.content, event.event_data()),
+            KeyedBy::Digest(Some(algorithm)) => EventName::new(&[], first_digest(algorithm, event)),
+            KeyedBy::Digest(None) => EventName::new(&[], &[]),
+        };
         EventKey {
             pcr_index: event.pcr_index().0,
             event_type: event.event_type().0,
             namespace: name.namespace,
             name: name.name,
         }
-    }
-
-    /// Returns the key of an event by its first digest of an algorithm.
-    fn of_digest(found: &NumberedEntry<'a>, algorithm: Option<AlgorithmId>) -> EventKey<'a> {
-        let event = &found.entry.event;
-        EventKey {
-            pcr_index: event.pcr_index().0,
-            event_type: event.event_type().0,
-            namespace: &[],
-            name: digest_by(algorithm, event),
-        }
-    }
-}
-
-/// Returns an event's first digest of an algorithm; nothing if it has none, or if there is none.
-fn digest_by<'a>(algorithm: Option<AlgorithmId>, event: &LogEvent<'a>) -> &'a [u8] {
-    match algorithm {
-        Some(algorithm) => first_digest(algorithm, event),
-        None => &[],
     }
 }
 

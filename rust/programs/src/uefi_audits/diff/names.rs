@@ -18,7 +18,7 @@ pub struct EventName<'a> {
 
 impl<'a> EventName<'a> {
     /// Returns a name in a namespace.
-    fn new(namespace: &'a [u8], name: &'a [u8]) -> EventName<'a> {
+    pub(super) fn new(namespace: &'a [u8], name: &'a [u8]) -> EventName<'a> {
         EventName { namespace, name }
     }
 }
@@ -87,7 +87,7 @@ fn bytes_after(bytes: &[u8], count: usize) -> &[u8] {
 pub fn command_name(bytes: &[u8]) -> EventName<'_> {
     if bytes.starts_with(b"grub_cmd: ") {
         let command = bytes_after(bytes, b"grub_cmd: ".len());
-        return EventName::new(b"grub_cmd", first_word(command));
+        return EventName::new(b"grub_cmd", before(before(command, 0), b' '));
     }
     if bytes.starts_with(b"kernel_cmdline: ") {
         return EventName::new(b"kernel_cmdline", &[]);
@@ -96,11 +96,6 @@ pub fn command_name(bytes: &[u8]) -> EventName<'_> {
         return EventName::new(b"module_cmdline", &[]);
     }
     EventName::new(&[], &[])
-}
-
-/// Returns the first word of a text, which a space ends, or the NUL.
-fn first_word(text: &[u8]) -> &[u8] {
-    before(before(text, 0), b' ')
 }
 
 /// Returns the bytes before the first one of a value; all if there is none.

@@ -37,15 +37,7 @@ pub(super) fn rule_at(
     is_separated: bool,
     it: &CheckedEntry<'_>,
 ) -> Option<Rule> {
-    if it.pcr() != pcr {
-        return None;
-    }
-    broken_rule(is_of_bios, is_separated, it)
-}
-
-/// Returns the rule that an event of PCR 0 to 8 breaks.
-fn broken_rule(is_of_bios: bool, is_separated: bool, it: &CheckedEntry<'_>) -> Option<Rule> {
-    if it.has_type(EventType::NO_ACTION) {
+    if it.pcr() != pcr || it.has_type(EventType::NO_ACTION) {
         return None;
     }
     if it.pcr() < FIRMWARE_PCRS {
@@ -76,15 +68,10 @@ fn separator_rule(is_separated: bool, bytes: &[u8]) -> Option<Rule> {
     if is_separated {
         return Some(Rule::SecondSeparator);
     }
-    if is_separator_value(bytes) {
+    if bytes == [0; 4].as_slice() || bytes == [0xff; 4].as_slice() {
         return None;
     }
     Some(Rule::SeparatorValue)
-}
-
-/// Returns whether these are the data of a separator: 0 or 0xFFFFFFFF, in four bytes.
-fn is_separator_value(bytes: &[u8]) -> bool {
-    bytes == [0; 4].as_slice() || bytes == [0xff; 4].as_slice()
 }
 
 /// Returns whether an event may follow the separator of its PCR.

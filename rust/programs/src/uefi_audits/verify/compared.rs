@@ -37,7 +37,10 @@ impl ComparedPcrs {
     ) -> Result<ComparedPcrs, AllocError> {
         let held = selected_pcrs(stated, selections)?;
         let verdict = Verdict::new(entries, held.as_slice(), locality)?;
-        let coverage = held_coverage(entries, stated, selections)?;
+        let covered = named_pcrs(held.as_slice())?;
+        let named = named_pcrs(stated)?;
+        let missing = missing_pcrs(named.as_slice(), selections)?;
+        let coverage = Coverage::new(entries, covered, missing)?;
         Ok(ComparedPcrs {
             held,
             verdict,
@@ -51,19 +54,6 @@ impl ComparedPcrs {
     pub fn agrees(&self) -> bool {
         self.verdict.is_agreement() && self.coverage.is_whole()
     }
-}
-
-/// Returns of which PCRs a verdict speaks on those of the stated ones that are selected.
-fn held_coverage(
-    entries: &[LogEntry<'_>],
-    stated: &[HeldPcr],
-    selections: &[PcrSelection],
-) -> Result<Coverage, AllocError> {
-    let held = selected_pcrs(stated, selections)?;
-    let covered = named_pcrs(held.as_slice())?;
-    let named = named_pcrs(stated)?;
-    let missing = missing_pcrs(named.as_slice(), selections)?;
-    Coverage::new(entries, covered, missing)
 }
 
 /// A quote beside what the events of a log lead to.
@@ -89,7 +79,9 @@ impl<'a> ComparedQuote<'a> {
         locality: Option<u8>,
     ) -> Result<ComparedQuote<'a>, AllocError> {
         let verdict = QuoteVerdict::new(entries, received, locality)?;
-        let coverage = quote_coverage(entries, received, selections)?;
+        let covered = covered_pcrs(&received.quote)?;
+        let missing = missing_pcrs(covered.as_slice(), selections)?;
+        let coverage = Coverage::new(entries, covered, missing)?;
         Ok(ComparedQuote { verdict, coverage })
     }
 }
@@ -100,15 +92,4 @@ impl ComparedQuote<'_> {
     pub fn agrees(&self) -> bool {
         self.verdict.agrees() && self.coverage.is_whole()
     }
-}
-
-/// Returns of which PCRs a verdict on a quote speaks.
-fn quote_coverage(
-    entries: &[LogEntry<'_>],
-    received: &ReceivedQuote<'_>,
-    selections: &[PcrSelection],
-) -> Result<Coverage, AllocError> {
-    let covered = covered_pcrs(&received.quote)?;
-    let missing = missing_pcrs(covered.as_slice(), selections)?;
-    Coverage::new(entries, covered, missing)
 }

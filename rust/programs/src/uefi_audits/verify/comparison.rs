@@ -33,10 +33,7 @@ pub fn led_to<'a>(
     held: &HeldPcr,
     replays: &'a [BankPcrs],
 ) -> Option<&'a Result<PcrValue, Undetermined>> {
-    let Some(pcrs) = pcrs_of(held.bank, replays) else {
-        return None;
-    };
-    pcrs.outcome(PcrIndex(held.pcr))
+    pcrs_of(held.bank, replays)?.outcome(PcrIndex(held.pcr))
 }
 
 /// Returns the PCRs of a bank.

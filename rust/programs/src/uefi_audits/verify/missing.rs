@@ -61,14 +61,9 @@ fn is_missing(selections: &[PcrSelection], stated: &[NamedPcr], bank: Bank, pcr:
 
 /// Returns whether a PCR is asked for by one of the selections.
 fn is_asked(selections: &[PcrSelection], stated: &[NamedPcr], bank: Bank, pcr: u32) -> bool {
-    selections
-        .iter()
-        .any(|it| is_asked_by(it, stated, bank, pcr))
-}
-
-/// Returns whether a PCR is asked for by a selection.
-fn is_asked_by(selection: &PcrSelection, stated: &[NamedPcr], bank: Bank, pcr: u32) -> bool {
-    selection.is_selected(bank, pcr) && (selection.bank().is_some() || is_stated(stated, bank))
+    selections.iter().any(|it| {
+        it.is_selected(bank, pcr) && (it.bank().is_some() || is_stated(stated, bank))
+    })
 }
 
 /// Returns whether a PCR of a bank is among these.

@@ -67,9 +67,17 @@ impl<'a> QuoteVerdict<'a> {
     ) -> Result<QuoteVerdict<'a>, AllocError> {
         let start = KnownStart::of(entries, locality);
         if start.is_stated {
-            return QuoteVerdict::at(entries, received, start);
+            let replays = quoted_replays(entries, &received.quote, &start.start)?;
+            return Ok(QuoteVerdict::of(received, replays.as_slice(), start));
         }
-        QuoteVerdict::at_assumed(entries, received)
+        let start = KnownStart::assumed(0);
+        let replays = quoted_replays(entries, &received.quote, &start.start)?;
+        let replays = replays.as_slice();
+        let at_0 = QuoteVerdict::of(received, replays, start);
+        let (at_3, at_4) = (KnownStart::assumed(3), KnownStart::assumed(4));
+        let at_3 = QuoteVerdict::restarted(entries, received, replays, at_3)?;
+        let at_4 = QuoteVerdict::restarted(entries, received, replays, at_4)?;
+        Ok(at_0.or(at_3).or(at_4))
     }
 
     /// Returns whether the digests agree, and the quote has the nonce that it was asked for with. Any
@@ -84,31 +92,6 @@ impl<'a> QuoteVerdict<'a> {
     pub fn covers(&self, bank: Bank, pcrs: &[u32]) -> bool {
         let quote = &self.received.quote;
         pcrs.iter().all(|pcr| is_covered(quote, bank, *pcr))
-    }
-
-    /// Returns the verdict in a TPM that was started so.
-    fn at(
-        entries: &[LogEntry<'_>],
-        received: &ReceivedQuote<'a>,
-        start: KnownStart,
-    ) -> Result<QuoteVerdict<'a>, AllocError> {
-        let replays = quoted_replays(entries, &received.quote, &start.start)?;
-        Ok(QuoteVerdict::of(received, replays.as_slice(), start))
-    }
-
-    /// Returns the verdict in a TPM of which nobody states how it was started.
-    fn at_assumed(
-        entries: &[LogEntry<'_>],
-        received: &ReceivedQuote<'a>,
-    ) -> Result<QuoteVerdict<'a>, AllocError> {
-        let start = KnownStart::assumed(0);
-        let replays = quoted_replays(entries, &received.quote, &start.start)?;
-        let replays = replays.as_slice();
-        let at_0 = QuoteVerdict::of(received, replays, start);
-        let (at_3, at_4) = (KnownStart::assumed(3), KnownStart::assumed(4));
-        let at_3 = QuoteVerdict::restarted(entries, received, replays, at_3)?;
-        let at_4 = QuoteVerdict::restarted(entries, received, replays, at_4)?;
-        Ok(at_0.or(at_3).or(at_4))
     }
 
     /// Returns the verdict in a TPM that was started so, by what the banks hold in one that was started

@@ -115,12 +115,9 @@ fn is_labelled(line: &[u8]) -> bool {
 
 /// Returns whether a PCR is none of the others.
 fn is_new(held: &HeldPcr, others: &[HeldPcr]) -> bool {
-    others.iter().all(|other| !is_same_pcr(held, other))
-}
-
-/// Returns whether two PCRs are the same: of one bank and one number.
-fn is_same_pcr(held: &HeldPcr, other: &HeldPcr) -> bool {
-    held.bank == other.bank && held.pcr == other.pcr
+    others
+        .iter()
+        .all(|other| held.bank != other.bank || held.pcr != other.pcr)
 }
 
 /// Returns the value of a PCR of a bank that its file in Linux's sysfs states, as in

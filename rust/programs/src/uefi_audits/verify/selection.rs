@@ -78,9 +78,7 @@ fn selection_in(text: &[u8]) -> Option<PcrSelection> {
     let Some((name, items)) = split_once(text, b':') else {
         return selected(None, text);
     };
-    let Some(bank) = bank_of_name(name) else {
-        return None;
-    };
+    let bank = bank_of_name(name)?;
     selected(Some(bank), items)
 }
 
@@ -95,13 +93,8 @@ pub fn selected_pcrs(
 ) -> Result<Vec<HeldPcr>, AllocError> {
     held.iter()
         .copied()
-        .filter(|pcr| is_selected(selections, pcr))
+        .filter(|pcr| selections.is_empty() || one_selects(selections, pcr))
         .fallible_collect()
-}
-
-/// Returns whether a PCR that a TPM held is selected.
-fn is_selected(selections: &[PcrSelection], held: &HeldPcr) -> bool {
-    selections.is_empty() || one_selects(selections, held)
 }
 
 /// Returns whether one of the selections selects a PCR that a TPM held.
@@ -124,15 +117,11 @@ fn selected(bank: Option<Bank>, items: &[u8]) -> Option<PcrSelection> {
     let mut pcrs = [false; PCR_COUNT];
     let mut rest = items;
     while let Some((item, after)) = split_once(rest, b',') {
-        let Some(range) = range_in(item) else {
-            return None;
-        };
+        let range = range_in(item)?;
         select(&mut pcrs, &range);
         rest = after;
     }
-    let Some(range) = range_in(rest) else {
-        return None;
-    };
+    let range = range_in(rest)?;
     select(&mut pcrs, &range);
     Some(PcrSelection { bank, pcrs })
 }
@@ -147,25 +136,14 @@ fn select(pcrs: &mut [bool; PCR_COUNT], range: &Range) {
 /// Returns the range that an item names: one PCR, or those from one to another.
 fn range_in(item: &[u8]) -> Option<Range> {
     let Some((first, last)) = split_once(item, b'-') else {
-        let Some(pcr) = pcr_number(item) else {
-            return None;
-        };
+        let pcr = pcr_number(item)?;
         return Some(Range {
             first: pcr,
             last: pcr,
         });
     };
-    range_between(first, last)
-}
-
-/// Returns the range between two numbers of PCRs.
-fn range_between(first: &[u8], last: &[u8]) -> Option<Range> {
-    let Some(first) = pcr_number(first) else {
-        return None;
-    };
-    let Some(last) = pcr_number(last) else {
-        return None;
-    };
+    let first = pcr_number(first)?;
+    let last = pcr_number(last)?;
     if first > last {
         return None;
     }
@@ -174,9 +152,7 @@ fn range_between(first: &[u8], last: &[u8]) -> Option<Range> {
 
 /// Returns the number of a PCR, which is below 24.
 fn pcr_number(text: &[u8]) -> Option<u32> {
-    let Some(number) = number_of(text) else {
-        return None;
-    };
+    let number = number_of(text)?;
     if number as usize >= PCR_COUNT {
         return None;
     }

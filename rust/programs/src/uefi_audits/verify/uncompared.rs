@@ -17,13 +17,8 @@ pub fn uncompared_pcrs(
     compared: &[NamedPcr],
 ) -> Result<Vec<u32>, AllocError> {
     (0..PCR_COUNT as u32)
-        .filter(|pcr| is_uncompared(entries, compared, *pcr))
+        .filter(|pcr| is_extended(entries, *pcr) && !is_compared(compared, *pcr))
         .fallible_collect()
-}
-
-/// Returns whether an event extends a PCR, and no bank of it is compared.
-fn is_uncompared(entries: &[LogEntry<'_>], compared: &[NamedPcr], pcr: u32) -> bool {
-    is_extended(entries, pcr) && !is_compared(compared, pcr)
 }
 
 /// Returns whether an event of a log extends a PCR.

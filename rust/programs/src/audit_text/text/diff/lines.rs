@@ -70,20 +70,8 @@ pub(crate) fn push_only_line(
     fallible_writeln!(text, " isn't in {new_name}")
 }
 
-/// Appends the line of the first event whose order is another; nothing if there is none.
-pub(crate) fn push_moved_line(
-    text: &mut String,
-    logs: &ComparedLogs<'_>,
-    moved: &Option<EventChange<'_>>,
-) -> Result<(), AllocError> {
-    match moved {
-        Some(change) => push_earlier_line(text, logs, change),
-        None => Ok(()),
-    }
-}
-
 /// Appends the line of an event that comes earlier in the new log.
-fn push_earlier_line(
+pub(crate) fn push_earlier_line(
     text: &mut String,
     logs: &ComparedLogs<'_>,
     change: &EventChange<'_>,

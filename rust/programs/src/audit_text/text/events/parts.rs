@@ -42,7 +42,11 @@ fn push_value(text: &mut String, value: &PartValue<'_>) -> Result<(), AllocError
         PartValue::Empty => Ok(()),
         PartValue::Decimal(number) => fallible_write!(text, "{number}"),
         PartValue::Hexadecimal(number) => fallible_write!(text, "0x{number:x}"),
-        PartValue::BootNumber(number) => push_boot_number(text, *number),
+        PartValue::BootNumber(number) => {
+            let bytes = [(*number / 256) as u8, (*number % 256) as u8];
+            let digits = crate::hex::encode_upper(&bytes)?;
+            fallible_write!(text, " Boot{digits}")
+        }
         PartValue::Guid(guid) => push_guid(text, guid),
         PartValue::Text(said) => {
             let said = ShownName(said.as_str());
@@ -51,26 +55,13 @@ fn push_value(text: &mut String, value: &PartValue<'_>) -> Result<(), AllocError
         PartValue::Plain(said) => text.fallible_push_str(said.as_str()),
         PartValue::Bytes(bytes) => push_bytes(text, bytes),
         PartValue::Object(parts) => push_parts(text, parts),
-        PartValue::List(values) => push_values(text, values),
+        PartValue::List(values) => {
+            for value in values {
+                push_value(text, value)?;
+            }
+            Ok(())
+        }
     }
-}
-
-/// Appends the values of a list.
-fn push_values(
-    text: &mut String,
-    values: &Vec<PartValue<'_>>,
-) -> Result<(), AllocError> {
-    for value in values {
-        push_value(text, value)?;
-    }
-    Ok(())
-}
-
-/// Appends a space, `Boot`, and the four digits of a number.
-fn push_boot_number(text: &mut String, number: u16) -> Result<(), AllocError> {
-    let bytes = [(number / 256) as u8, (number % 256) as u8];
-    let digits = crate::hex::encode_upper(&bytes)?;
-    fallible_write!(text, " Boot{digits}")
 }
 
 /// Appends a GUID.
