@@ -74,7 +74,7 @@ lacking_quote before name check judged = record {
 }
 
 -- The verdict on the PCRs of a file, which are compared as well, in a format: nothing if they agree, since the verdict is the quote's.
-unfoldable pub differing_text : Format → List ℕ → PcrsJudged → List ℕ
+abbrev pub differing_text : Format → List ℕ → PcrsJudged → List ℕ
 differing_text format name judged = if pcrs_agree judged then [] else verdict_text format name judged
 
 -- What is printed of them, unless some that are asked for are missing in the file.
@@ -96,7 +96,7 @@ with_registers (pcr ∷ pcrs) file check quote =
     one_after_other quote (registers_printed file check.registers (judged_in file check.registers))
 
 -- All of it, unless the quote doesn't cover PCRs that are asked for.
-unfoldable pub unless_uncovered : List NamedPcr → List ℕ → LogFile → QuoteCheck → QuoteJudged → Printed
+abbrev pub unless_uncovered : List NamedPcr → List ℕ → LogFile → QuoteCheck → QuoteJudged → Printed
 unless_uncovered [] before file check judged =
     with_registers check.registers.pcrs.now file check (quote_printed before file check judged)
 unless_uncovered (pcr ∷ missing) before file check judged = lacking_quote before file.name.now check judged

@@ -1,7 +1,7 @@
 ghost use Rattle.std.specs.Prelude.{◌≡◌, map, string_bytes, IfOk};
 ghost use Rattle.std.specs.Option.{option_map};
 ghost use Rattle.std.specs.Result.{result_map_both};
-ghost use Rattle.uefi_audit.specs.CheckReport.{AreQuoted, IsCheckReport, IsCheckedIf, found_status, found_text, remarks_status};
+ghost use Rattle.uefi_audit.specs.CheckReport.{AreQuoted, IsCheckReport, found_status, found_text};
 ghost use Rattle.uefi_audit.specs.Printed.{printed_of};
 ghost use Rattle.uefi_audits.specs.CheckResult.{mismatch_of};
 ghost use Rattle.uefi_audits.specs.OutOfPlace.{remarks_of};
@@ -15,7 +15,6 @@ use audit_text::text::push_check;
 use std::alloc::{AllocError, Global};
 use tpm_quote::{Quote, QuoteError};
 use uefi_audits::check::{CheckResult, check_entries};
-use uefi_audits::out_of_place::Remarks;
 use uefi_audits::verify::{NamedPcr, covered_pcrs};
 
 /// Returns what is printed of the events of a log: those whose digests aren't the hash of what their
@@ -99,22 +98,12 @@ fn found_text(
 
 /// Returns the status of what was found of a log: whether no event is a mismatch, and no remark counts
 /// against the log.
+#[tactic(auto, unfolding(crate::specs::CheckReport::remarks_status))]
 fn found_status(found: &CheckResult<'_>) -> Status
     ensures { result ≡ found_status (map mismatch_of found.now.mismatches.items)
         (remarks_of found.now.remarks) }
 {
-    match found.mismatches.as_slice() {
-        [] => remarks_status(&found.remarks),
-        _ => Status::Differs,
-    }
-}
-
-/// Returns the status of the remarks on a log: whether they count against it.
-#[tactic(auto, unfolding(crate::specs::CheckReport::remarks_status))]
-fn remarks_status(remarks: &Remarks<'_>) -> Status
-    ensures { result ≡ remarks_status (remarks_of remarks.now) }
-{
-    if remarks.are_faults() {
+    if !found.mismatches.is_empty() || found.remarks.are_faults() {
         return Status::Differs;
     }
     Status::Well

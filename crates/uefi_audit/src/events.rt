@@ -1,4 +1,4 @@
-ghost use Rattle.std.specs.Prelude.{◌≡◌, string_bytes, IfOk, OnOk};
+ghost use Rattle.std.specs.Prelude.{string_bytes, IfOk, OnOk};
 ghost use Rattle.uefi_base.specs.Appending.{AppendsText};
 ghost use Rattle.pcr_replay.specs.ReadLogs.{header_in};
 ghost use Rattle.uefi_audit.specs.EventsReport.{AreEvents, AreEventsIf, IsEventsReport, header_text};
@@ -50,23 +50,11 @@ fn events_text(
     if !is_read {
         return Ok(text);
     }
-    push_formatted(&mut text, alloc, file, format)?;
-    Ok(text)
-}
-
-/// Appends the events of a log in a format.
-fn push_formatted(
-    text: &mut String,
-    alloc: Global,
-    file: &LogFile<'_>,
-    format: Format,
-) -> Result<(), AllocError>
-    ensures { OnOk result (AppendsSome (AreEvents format file.now) text.old text.new) }
-{
     match format {
-        Format::Json => push_lines(text, alloc, file),
-        Format::Text => push_blocks(text, alloc, file),
+        Format::Json => push_lines(&mut text, alloc, file)?,
+        Format::Text => push_blocks(&mut text, alloc, file)?,
     }
+    Ok(text)
 }
 
 /// Appends the line of each event.

@@ -2,7 +2,7 @@ ghost use Rattle.std.specs.Prelude.{◌≡◌, string_bytes, IfOk};
 ghost use Rattle.uefi_audits.specs.verify.Compared.{judged_pcrs_of, judged_quote_of};
 ghost use Rattle.uefi_audit.specs.Opened.{IsVerdictOf};
 ghost use Rattle.uefi_audit.specs.Printed.{printed_of};
-ghost use Rattle.uefi_audit.specs.QuoteCheck.{QuoteIsMet, by_digest, checked_by_judgement, differing_text, judged_on, lacking_quote, lacking_text, quote_checked, quote_printed, quote_status, quote_text, reason_of, registers_printed, unless_empty, unless_uncovered, with_registers};
+ghost use Rattle.uefi_audit.specs.QuoteCheck.{QuoteIsMet, by_digest, checked_by_judgement, judged_on, lacking_quote, quote_checked, quote_printed, quote_status, quote_text, reason_of, registers_printed, unless_empty, with_registers};
 ghost use Rattle.uefi_audit.specs.Verification.{judged_in};
 ghost use Rattle.uefi_audit.specs.declared.failure.Status.TheVariants.{Well};
 
@@ -152,7 +152,8 @@ fn reason_of(why: NoQuoteDigest) -> NotJudged
     }
 }
 
-/// Returns what is printed of a verdict after these messages, unless the quote covers no PCR.
+/// Returns what is printed of a verdict after these messages, unless the quote covers no PCR, or not
+/// those that are asked for.
 #[tactic(auto, unfolding(crate::specs::QuoteCheck::unless_empty))]
 fn covered_report(
     alloc: Global,
@@ -165,29 +166,12 @@ fn covered_report(
         (judged_quote_of compared.now).covering.covered (string_bytes messages) file.now check.now
         (judged_quote_of compared.now)) }
 {
-    if !compared.coverage.covered.is_empty() {
-        return asked_report(alloc, messages, file, check, compared);
-    }
     let mut messages = messages;
-    push_no_pcr(&mut messages, check.file)?;
-    let format = check.registers.format;
-    Report::unjudged_as(alloc, messages, file.name, format, NotJudged::NoPcr)
-}
-
-/// Returns what is printed of a verdict after these messages, unless the quote doesn't cover PCRs that are
-/// asked for.
-#[tactic(auto, unfolding(crate::specs::QuoteCheck::unless_uncovered))]
-fn asked_report(
-    alloc: Global,
-    messages: String,
-    file: &LogFile<'_>,
-    check: &QuoteCheck<'_>,
-    compared: &ComparedQuote<'_>,
-) -> Result<Report, AllocError>
-    ensures { IfOk result (λ report. printed_of report ≡ unless_uncovered
-        (judged_quote_of compared.now).covering.missing (string_bytes messages) file.now check.now
-        (judged_quote_of compared.now)) }
-{
+    if compared.coverage.covered.is_empty() {
+        push_no_pcr(&mut messages, check.file)?;
+        let format = check.registers.format;
+        return Report::unjudged_as(alloc, messages, file.name, format, NotJudged::NoPcr);
+    }
     if !compared.coverage.missing.is_empty() {
         return lacking_quote(alloc, messages, file.name, check, compared);
     }
@@ -196,6 +180,7 @@ fn asked_report(
 }
 
 /// Returns what is printed after these messages of a quote that doesn't cover PCRs that are asked for.
+#[tactic(auto, unfolding(crate::specs::QuoteCheck::lacking_text))]
 fn lacking_quote(
     alloc: Global,
     messages: String,
@@ -212,8 +197,13 @@ fn lacking_quote(
         check.file,
         compared.coverage.missing.as_slice(),
     )?;
+    let mut text = String::new(alloc);
+    match check.registers.format {
+        Format::Text => {}
+        Format::Json => push_quote_json(&mut text, alloc, name, compared)?,
+    }
     Ok(Report {
-        text: lacking_text(alloc, name, compared, check.registers.format)?,
+        text,
         messages,
         status: Status::Unjudged,
     })
@@ -270,25 +260,6 @@ fn quote_text(
     Ok(text)
 }
 
-/// Returns what is printed of a quote that doesn't cover PCRs that are asked for: its line of JSON.
-#[tactic(auto, unfolding(crate::specs::QuoteCheck::lacking_text))]
-fn lacking_text(
-    alloc: Global,
-    name: &str,
-    compared: &ComparedQuote<'_>,
-    format: Format,
-) -> Result<String, AllocError>
-    ensures { IfOk result (λ text. string_bytes text
-        ≡ lacking_text format name.now (judged_quote_of compared.now)) }
-{
-    let mut text = String::new(alloc);
-    match format {
-        Format::Text => {}
-        Format::Json => push_quote_json(&mut text, alloc, name, compared)?,
-    }
-    Ok(text)
-}
-
 /// Returns the status of a verdict on a quote: it differs if its digest or its nonce does, or one of
 /// the events without effect should have extended a PCR that no TPM has.
 fn quote_status(compared: &ComparedQuote<'_>, ignored: &[IgnoredEvent]) -> Status
@@ -330,7 +301,8 @@ fn registers_report(
     registers_verdict(alloc, file, stated, &compared)
 }
 
-/// Returns what is printed of the verdict on them, unless some that are asked for are missing.
+/// Returns what is printed of the verdict on them, unless some that are asked for are missing: nothing
+/// if they agree, since the verdict is the quote's.
 #[tactic(auto, unfolding(crate::specs::QuoteCheck::registers_unless_missing))]
 fn registers_verdict(
     alloc: Global,
@@ -345,27 +317,14 @@ fn registers_verdict(
     if !compared.coverage.missing.is_empty() {
         return lacking_report(alloc, messages, file.name, stated, compared);
     }
+    let text = if compared.agrees() {
+        String::new(alloc)
+    } else {
+        verdict_text(alloc, file.name, compared, stated.format)?
+    };
     Ok(Report {
-        text: differing_text(alloc, file.name, compared, stated.format)?,
+        text,
         messages,
         status: status_of(&compared.verdict, &[]),
     })
-}
-
-/// Returns the verdict on PCRs that are compared beside a quote in a format; nothing if they agree, since
-/// the verdict is the quote's.
-#[tactic(auto, unfolding(crate::specs::QuoteCheck::differing_text))]
-fn differing_text(
-    alloc: Global,
-    name: &str,
-    compared: &ComparedPcrs,
-    format: Format,
-) -> Result<String, AllocError>
-    ensures { IfOk result (λ text. string_bytes text
-        ≡ differing_text format name.now (judged_pcrs_of compared.now)) }
-{
-    if compared.agrees() {
-        return Ok(String::new(alloc));
-    }
-    verdict_text(alloc, name, compared, format)
 }

@@ -3,7 +3,7 @@ ghost use Rattle.uefi_base.specs.Appending.{AppendsText};
 ghost use Rattle.pcr_replay.specs.ReadLogs.{entries_in};
 ghost use Rattle.uefi_audits.specs.Ignored.{has_no_pcr};
 ghost use Rattle.uefi_audit.specs.Printed.{printed_of};
-ghost use Rattle.uefi_audit.specs.ReplayReport.{IsReplayBy, IsReplayReport, IsReplayed, assumed_lines, name_line, pcrs_text, refused, replay_messages, replay_status, replay_text};
+ghost use Rattle.uefi_audit.specs.ReplayReport.{IsReplayReport, IsReplayed, name_line, refused, replay_messages, replay_status, replay_text};
 
 use crate::failure::Status;
 use crate::log_file::{LogFile, judge, judged_status};
@@ -18,7 +18,6 @@ use shown::ShownName;
 use std::alloc::{AllocError, Global};
 use uefi_audits::facts::LogFacts;
 use uefi_audits::ignored::IgnoredEvent;
-use uefi_audits::known_start::KnownStart;
 use uefi_audits::log_replay::LogReplay;
 
 /// What `replay` asks for.
@@ -130,7 +129,10 @@ fn replay_text(
 {
     let mut text = String::new(alloc);
     match asked.format {
-        Format::Text => push_text(&mut text, alloc, name, asked.is_one_of_many, replay)?,
+        Format::Text => {
+            push_name(&mut text, name, asked.is_one_of_many)?;
+            push_banks(&mut text, alloc, replay.banks.as_slice())?;
+        }
         Format::Json => {
             let banks = Some(replay.banks.as_slice());
             push_replay_json(&mut text, alloc, name, facts, banks)?;
@@ -141,6 +143,7 @@ fn replay_text(
 
 /// Appends the messages on a replay: the locality that is assumed, unless the log is one of many, the
 /// banks that weren't replayed, the PCRs that are undetermined, and the events without effect.
+#[tactic(auto, unfolding(crate::specs::ReplayReport::assumed_lines))]
 fn push_messages(
     messages: &mut String,
     name: &str,
@@ -151,43 +154,13 @@ fn push_messages(
     ensures { OnOk result (AppendsText messages.old messages.new
         (replay_messages name.now facts.now replay.now is_one_of_many)) }
 {
-    push_assumed(messages, name, &facts.start, is_one_of_many)?;
+    if !is_one_of_many {
+        push_start(messages, name, &facts.start)?;
+    }
     push_inactive(messages, name, replay.inactive.as_slice())?;
     push_unsupported(messages, name, replay.unsupported.as_slice())?;
     push_undetermined(messages, name, replay.banks.as_slice())?;
     push_ignored(messages, name, replay.ignored.as_slice())
-}
-
-/// Appends the locality that is assumed, unless the log is one of many: then it is said once of all.
-#[tactic(auto, unfolding(crate::specs::ReplayReport::assumed_lines))]
-fn push_assumed(
-    messages: &mut String,
-    name: &str,
-    start: &KnownStart,
-    is_one_of_many: bool,
-) -> Result<(), AllocError>
-    ensures { OnOk result (AppendsText messages.old messages.new
-        (assumed_lines is_one_of_many name.now start.now)) }
-{
-    if is_one_of_many {
-        return Ok(());
-    }
-    push_start(messages, name, start)
-}
-
-/// Appends PCRs as text, after the log's name if it is one of many.
-fn push_text(
-    text: &mut String,
-    alloc: Global,
-    name: &str,
-    is_one_of_many: bool,
-    replay: &LogReplay,
-) -> Result<(), AllocError>
-    ensures { OnOk result (AppendsText text.old text.new
-        (pcrs_text is_one_of_many name.now replay.now)) }
-{
-    push_name(text, name, is_one_of_many)?;
-    push_banks(text, alloc, replay.banks.as_slice())
 }
 
 /// Appends the line with a log's name, if it is one of many.

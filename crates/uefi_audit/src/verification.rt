@@ -1,14 +1,9 @@
-ghost use Rattle.std.specs.Prelude.{◌≡◌, flat_map, string_bytes, IfOk, OnOk};
-ghost use Rattle.uefi_base.specs.Appending.{AppendsText};
-ghost use Rattle.pcr_replay.specs.ReadLogs.{entries_in};
-ghost use Rattle.uefi_audits.specs.LogReplay.{inactive_banks};
-ghost use Rattle.uefi_audits.specs.verify.Banks.{held_banks};
+ghost use Rattle.std.specs.Prelude.{◌≡◌, string_bytes, IfOk};
 ghost use Rattle.uefi_audits.specs.verify.Compared.{judged_pcrs_of};
 ghost use Rattle.uefi_audits.specs.verify.Verdict.{comparison_of};
-ghost use Rattle.audit_text.specs.text.Remarks.{inactive_line};
 ghost use Rattle.uefi_audit.specs.Opened.{IsVerdictOf};
 ghost use Rattle.uefi_audit.specs.Printed.{printed_of};
-ghost use Rattle.uefi_audit.specs.Verification.{by_judgement, compared, judged_in, lacking, lacking_text, verdict_status, verdict_text, verification, with_verdict};
+ghost use Rattle.uefi_audit.specs.Verification.{by_judgement, compared, judged_in, lacking, verdict_status, verdict_text, verification, with_verdict};
 
 use crate::failure::Status;
 use crate::log_file::{LogFile, Opened, judge};
@@ -69,7 +64,7 @@ pub(crate) fn verify_report(
 /// # Errors
 ///
 /// [`AllocError`] if an allocation fails.
-pub(crate) fn verification_report(
+fn verification_report(
     alloc: Global,
     file: &LogFile<'_>,
     reading: Reading,
@@ -96,7 +91,10 @@ fn judged_report(
 {
     let (name, format) = (file.name, stated.format);
     match judgement {
-        Judgement::Accepted => stated_report(alloc, messages, file, stated),
+        Judgement::Accepted => {
+            let compared = compare(alloc, file, stated)?;
+            compared_report(alloc, messages, file, stated, &compared)
+        }
         Judgement::NothingMeasured => {
             Report::unjudged_as(alloc, messages, name, format, NotJudged::NothingMeasured)
         }
@@ -104,20 +102,6 @@ fn judged_report(
             Report::unjudged_as(alloc, messages, name, format, NotJudged::LeftOver)
         }
     }
-}
-
-/// Returns what is printed after these messages of a log that can be judged.
-fn stated_report(
-    alloc: Global,
-    messages: String,
-    file: &LogFile<'_>,
-    stated: &StatedPcrs<'_>,
-) -> Result<Report, AllocError>
-    ensures { IfOk result (λ report. printed_of report
-        ≡ compared (string_bytes messages) file.now stated.now (judged_in file.now stated.now)) }
-{
-    let compared = compare(alloc, file, stated)?;
-    compared_report(alloc, messages, file, stated, &compared)
 }
 
 /// Returns the verdict on the PCRs that are selected.
@@ -160,6 +144,7 @@ fn compared_report(
 /// # Errors
 ///
 /// [`AllocError`] if an allocation fails.
+#[tactic(auto, unfolding(crate::specs::Verification::lacking_text))]
 pub(crate) fn lacking_report(
     alloc: Global,
     messages: String,
@@ -176,8 +161,13 @@ pub(crate) fn lacking_report(
         stated.file,
         compared.coverage.missing.as_slice(),
     )?;
+    let mut text = String::new(alloc);
+    match stated.format {
+        Format::Text => {}
+        Format::Json => push_verdict_json(&mut text, alloc, name, compared)?,
+    }
     Ok(Report {
-        text: lacking_text(alloc, name, compared, stated.format)?,
+        text,
         messages,
         status: Status::Unjudged,
     })
@@ -196,8 +186,10 @@ fn verdict_report(
 {
     let mut messages = messages;
     let ignored = ignored_events(alloc, file.read.entries())?;
+    let held = held_banks(alloc, compared.held.as_slice())?;
+    let inactive = inactive_banks(alloc, file.read.entries(), held.as_slice())?;
     push_start(&mut messages, file.name, &compared.verdict.start)?;
-    push_inactive_banks(&mut messages, alloc, file, compared.held.as_slice())?;
+    push_inactive(&mut messages, file.name, inactive.as_slice())?;
     push_ignored(&mut messages, file.name, ignored.as_slice())?;
     push_uncompared(
         &mut messages,
@@ -209,22 +201,6 @@ fn verdict_report(
         messages,
         status: status_of(&compared.verdict, ignored.as_slice()),
     })
-}
-
-/// Appends the held banks that no event has a digest of.
-fn push_inactive_banks(
-    messages: &mut String,
-    alloc: Global,
-    file: &LogFile<'_>,
-    held: &[HeldPcr],
-) -> Result<(), AllocError>
-    ensures { OnOk result (AppendsText messages.old messages.new (flat_map
-        (inactive_line file.now.name.now)
-        (inactive_banks (entries_in file.now.read) (held_banks held.now)))) }
-{
-    let banks = held_banks(alloc, held)?;
-    let inactive = inactive_banks(alloc, file.read.entries(), banks.as_slice())?;
-    push_inactive(messages, file.name, inactive.as_slice())
 }
 
 /// Returns a verdict in a format.
@@ -242,26 +218,6 @@ pub(crate) fn verdict_text(
     let mut text = String::new(alloc);
     match format {
         Format::Text => push_verdict(&mut text, alloc, name, held, verdict)?,
-        Format::Json => push_verdict_json(&mut text, alloc, name, compared)?,
-    }
-    Ok(text)
-}
-
-/// Returns what is printed of a verdict on PCRs of which some that are asked for are missing: its line of
-/// JSON.
-#[tactic(auto, unfolding(crate::specs::Verification::lacking_text))]
-fn lacking_text(
-    alloc: Global,
-    name: &str,
-    compared: &ComparedPcrs,
-    format: Format,
-) -> Result<String, AllocError>
-    ensures { IfOk result (λ text. string_bytes text
-        ≡ lacking_text format name.now (judged_pcrs_of compared.now)) }
-{
-    let mut text = String::new(alloc);
-    match format {
-        Format::Text => {}
         Format::Json => push_verdict_json(&mut text, alloc, name, compared)?,
     }
     Ok(text)

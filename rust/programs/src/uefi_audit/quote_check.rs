@@ -224,12 +224,20 @@ fn with_registers(
     if check.registers.pcrs.is_empty() {
         return Ok(quote);
     }
-    let compared = compare(file, &check.registers)?;
-    quote.and(&registers_verdict(file, &check.registers, &compared)?)
+    quote.and(&registers_report(file, &check.registers)?)
 }
 
-/// Returns what is printed of the verdict on PCRs that are compared beside a quote, unless some that
-/// are asked for are missing: nothing if they agree, since the verdict is the quote's.
+/// Returns what is printed of PCRs that are compared beside a quote.
+fn registers_report(
+    file: &LogFile<'_>,
+    stated: &StatedPcrs<'_>,
+) -> Result<Report, AllocError> {
+    let compared = compare(file, stated)?;
+    registers_verdict(file, stated, &compared)
+}
+
+/// Returns what is printed of the verdict on them, unless some that are asked for are missing: nothing
+/// if they agree, since the verdict is the quote's.
 fn registers_verdict(
     file: &LogFile<'_>,
     stated: &StatedPcrs<'_>,
